@@ -1,0 +1,11 @@
+pub mod Digits
+pub mod Faults
+pub mod Floor
+pub mod Fraction
+pub mod Number
+pub mod Reading
+pub mod Row
+pub mod Scaled
+pub mod Span
+pub mod Text
+pub mod Value
