@@ -1,0 +1,9 @@
+pub mod Calendar
+pub mod Fields
+pub mod Moment
+pub mod SpanReading
+pub mod SpanText
+pub mod StampReading
+pub mod StampText
+pub mod Text
+pub mod Units
