@@ -1,0 +1,4 @@
+pub mod ContentLemmas
+pub mod ImageLemmas
+pub mod StepLemmas
+pub mod StopLemmas

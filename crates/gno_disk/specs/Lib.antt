@@ -1,0 +1,9 @@
+pub mod Content
+pub mod Disk
+pub mod File
+pub mod Images
+pub mod Inside
+pub mod Kept
+pub mod Memory
+pub mod Moments
+pub mod Stop
