@@ -1,0 +1,109 @@
+-- Bytes hold at most one list of records, and bytes that are cut short hold none.
+use Rattle.std.proofs.Common.{◌≡◌, ◌≢◌, ℕ, ◌+◌, ◌<◌, ◌≤◌, ◌^◌, List, [], ◌∷◌, ◌++◌, length, take, drop, slice_index, inl, inr, refl, sym, ap, subst, ◌∙◌, arith, append_assoc, length-append, Option, IfSome}
+use Rattle.std.proofs.lemmas.List.{take_at, drop_at}
+use Rattle.byteorder.specs.Endian.{big_bytes, big_number}
+use Rattle.byteorder.specs.Numbers.{length-bytes_high_first, big_number-reads_back}
+use Rattle.gate_log.specs.Records.{BeginsWithNone, Holds, HoldsNoList, IsCutShort, IsDamaged, log_bytes, record_bytes}
+use Rattle.gate_log.proofs.Moments.{told_with}
+
+-- a record and what stands behind it, with the body apart
+record_apart : (body rest : List ℕ) → record_bytes body ++ rest ≡ (1 ∷ big_bytes 8 (length body)) ++ (body ++ rest)
+record_apart body rest = append_assoc (1 ∷ big_bytes 8 (length body)) body rest
+
+head_long : (n : ℕ) → length (1 ∷ big_bytes 8 n) ≡ 9
+head_long n = omega (arith, length-bytes_high_first 8 n)
+
+-- how long they are
+pub record_long : (body rest : List ℕ) → length (record_bytes body ++ rest) ≡ 9 + length body + length rest
+record_long body rest =
+    omega (arith, ap length (record_apart body rest), length-append (1 ∷ big_bytes 8 (length body)) (body ++ rest), head_long (length body), length-append body rest)
+
+-- the length that is spelled is that of the body
+spelled : (body rest : List ℕ) → length body ≤ 2 ^ 60 → big_number 8 (drop 1 (record_bytes body ++ rest)) ≡ length body
+spelled body rest short =
+    ap (λ (l : List ℕ). big_number 8 (drop 1 l)) (record_apart body rest) ∙ big_number-reads_back 8 (length body) (body ++ rest) (omega arith)
+
+-- equal bytes begin with the same record
+same_front : (a b s t : List ℕ) → length a ≤ 2 ^ 60 → length b ≤ 2 ^ 60 → record_bytes a ++ s ≡ record_bytes b ++ t → (a ≡ b) × (s ≡ t)
+same_front a b s t short_a short_b same =
+    let len : length a ≡ length b = sym (spelled a s short_a) ∙ ap (λ (l : List ℕ). big_number 8 (drop 1 l)) same ∙ spelled b t short_b in
+    let behind : a ++ s ≡ b ++ t =
+    sym (drop_at (1 ∷ big_bytes 8 (length a)) (a ++ s) 9 (head_long (length a))) ∙ ap (λ (l : List ℕ). drop 9 l) (sym (record_apart a s) ∙ same ∙ record_apart b t)
+    ∙ drop_at (1 ∷ big_bytes 8 (length b)) (b ++ t) 9 (head_long (length b)) in (
+      sym (take_at a s (length a) refl) ∙ ap (λ (l : List ℕ). take (length a) l) behind ∙ take_at b t (length a) (sym len),
+      sym (drop_at a s (length a) refl) ∙ ap (λ (l : List ℕ). drop (length a) l) behind ∙ drop_at b t (length a) (sym len),
+    )
+
+-- the first record apart from the others
+first_apart : (body : List ℕ) (records : List (List ℕ)) (rest : List ℕ) → log_bytes (body ∷ records) ++ rest ≡ record_bytes body ++ (log_bytes records ++ rest)
+first_apart body records rest = append_assoc (record_bytes body) (log_bytes records) rest
+
+-- the same bytes begin with one record
+same_first : (a b : List ℕ) (rs ss : List (List ℕ)) (s t : List ℕ) → length (log_bytes (a ∷ rs) ++ s) ≤ 2 ^ 60 → log_bytes (a ∷ rs) ++ s ≡ log_bytes (b ∷ ss) ++ t → (a ≡ b) × (log_bytes rs ++ s ≡ log_bytes ss ++ t)
+same_first a b rs ss s t short same =
+    let first = first_apart a rs s in
+    let second = first_apart b ss t in
+    let equal : record_bytes a ++ (log_bytes rs ++ s) ≡ record_bytes b ++ (log_bytes ss ++ t) = sym first ∙ same ∙ second in
+    same_front a b (log_bytes rs ++ s) (log_bytes ss ++ t) (omega (arith, short, ap length first, record_long a (log_bytes rs ++ s)))
+    (omega (arith, short, ap length first, ap length equal, record_long b (log_bytes ss ++ t))) equal
+
+rest_short : (a : List ℕ) (rs : List (List ℕ)) (s : List ℕ) → length (log_bytes (a ∷ rs) ++ s) ≤ 2 ^ 60 → length (log_bytes rs ++ s) ≤ 2 ^ 60
+rest_short a rs s short = omega (arith, short, ap length (first_apart a rs s), record_long a (log_bytes rs ++ s))
+
+-- two lists of records with a closed gate behind each
+same_records : (rs ss : List (List ℕ)) (g h : ℕ) (s t : List ℕ) → g ≢ 1 → h ≢ 1 → length (log_bytes rs ++ g ∷ s) ≤ 2 ^ 60 → log_bytes rs ++ g ∷ s ≡ log_bytes ss ++ h ∷ t → rs ≡ ss
+same_records [] [] g h s t shut shut_too short same = refl
+same_records [] (b ∷ ss) g h s t shut shut_too short same = absurd (shut (ap (λ (l : List ℕ). slice_index l 0) same))
+same_records (a ∷ rs) [] g h s t shut shut_too short same = absurd (shut_too (sym (ap (λ (l : List ℕ). slice_index l 0) same)))
+same_records (a ∷ rs) (b ∷ ss) g h s t shut shut_too short same =
+    let both = same_first a b rs ss (g ∷ s) (h ∷ t) short same in
+    ap (λ (x : List ℕ). x ∷ rs) both.0 ∙ ap (λ (l : List (List ℕ)). b ∷ l) (same_records rs ss g h s t shut shut_too (rest_short a rs (g ∷ s) short) both.1)
+
+-- bytes hold one list of records
+pub Holds-one : (bytes : List ℕ) (rs ss : List (List ℕ)) → length bytes ≤ 2 ^ 60 → Holds bytes rs → Holds bytes ss → rs ≡ ss
+Holds-one bytes rs ss short first second =
+    same_records rs ss first.gate second.gate first.rest second.rest first.closed second.closed (omega (arith, short, ap length first.bytes_are)) (sym first.bytes_are ∙ second.bytes_are)
+
+-- no whole record stands first, with a gate behind it, where the bytes are cut short
+pub cut_short_first : (body rest : List ℕ) → length (record_bytes body ++ rest) ≤ 2 ^ 60 → 0 < length rest → IsCutShort (record_bytes body ++ rest) → ⊥
+cut_short_first body rest short some (inl none) = omega (arith, none, record_long body rest)
+cut_short_first body rest short some (inr (gate, inl few)) = omega (arith, few, record_long body rest)
+cut_short_first body rest short some (inr (gate, inr cut)) =
+    let long = record_long body rest in
+    omega (arith, cut, long, spelled body rest (omega (arith, long, short)))
+
+-- nor is it a closed gate
+cut_short_gate : (gate : ℕ) (rest : List ℕ) → gate ≢ 1 → IsCutShort (gate ∷ rest) → ⊥
+cut_short_gate gate rest shut (inl none) = omega (arith, none)
+cut_short_gate gate rest shut (inr cut) = shut cut.0
+
+-- records that are cut short aren't records with a closed gate behind them
+cut_short_records : (rs ss : List (List ℕ)) (rest : List ℕ) (gate : ℕ) (t : List ℕ) → gate ≢ 1 → length (log_bytes rs ++ rest) ≤ 2 ^ 60 → IsCutShort rest → log_bytes rs ++ rest ≡ log_bytes ss ++ gate ∷ t → ⊥
+cut_short_records [] [] rest gate t shut short cut same = cut_short_gate gate t shut (subst IsCutShort same cut)
+cut_short_records [] (b ∷ ss) rest gate t shut short cut same =
+    let equal : rest ≡ record_bytes b ++ (log_bytes ss ++ gate ∷ t) = same ∙ first_apart b ss (gate ∷ t) in
+    cut_short_first b (log_bytes ss ++ gate ∷ t) (omega (arith, short, ap length equal)) (omega (arith, length-append (log_bytes ss) (gate ∷ t))) (subst IsCutShort equal cut)
+cut_short_records (a ∷ rs) [] rest gate t shut short cut same = shut (sym (ap (λ (l : List ℕ). slice_index l 0) same))
+cut_short_records (a ∷ rs) (b ∷ ss) rest gate t shut short cut same =
+    cut_short_records rs ss rest gate t shut (rest_short a rs rest short) cut (same_first a b rs ss rest (gate ∷ t) short same).1
+
+-- damaged bytes hold no list of records
+pub IsDamaged-never : (bytes : List ℕ) (at : ℕ) → length bytes ≤ 2 ^ 60 → IsDamaged bytes at → HoldsNoList bytes
+IsDamaged-never bytes at short damaged = λ records held.
+    cut_short_records damaged.records records damaged.rest held.gate held.rest held.closed (omega (arith, short, ap length damaged.bytes_are)) damaged.cut_short (sym damaged.bytes_are ∙ held.bytes_are)
+
+-- no record stands whole where the bytes are cut short
+pub cut_short_none : (bytes : List ℕ) → length bytes ≤ 2 ^ 60 → IsCutShort bytes → BeginsWithNone bytes
+cut_short_none bytes short cut = λ body whole.
+    let rest = whole.begins.rest in
+    let equal : bytes ≡ record_bytes body ++ rest = whole.begins.bytes_are ∙ first_apart body [] rest in
+    let next = whole.next_gate in
+    cut_short_first body rest (omega (arith, short, ap length equal)) (omega (arith, next, ap length equal, record_long body rest, record_long body [])) (subst IsCutShort equal cut)
+
+-- the same where the disk tells its bytes
+module _ (told : Option (List ℕ)) (size : ℕ) (whole : IfSome told (λ bytes. length bytes ≡ size)) (short : size ≤ 2 ^ 60) where
+  pub told_never : (at : ℕ) → IfSome told (λ bytes. IsDamaged bytes at) → IfSome told HoldsNoList
+  told_never at damaged = told_with told whole damaged (λ bytes long d. IsDamaged-never bytes at (omega (arith, long, short)) d)
+
+  pub told_cut_none : IfSome told IsCutShort → IfSome told BeginsWithNone
+  told_cut_none cut = told_with told whole cut (λ bytes long c. cut_short_none bytes (omega (arith, long, short)) c)

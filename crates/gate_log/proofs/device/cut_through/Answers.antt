@@ -1,0 +1,12 @@
+use Rattle.gno_disk.specs.Disk.{LooseCut}
+use Rattle.gate_log.proofs.Bytes.{LooseCut-itself}
+use Rattle.gate_log.proofs.Moments.{change_leaves, sync_leaves}
+use Rattle.gate_log.proofs.device.cut_through.Goals as goal
+
+pub returns-in_err-cut-clause-any_moment : goal.returns-in_err-cut-clause-any_moment
+returns-in_err-cut-clause-any_moment g c =
+    change_leaves g.D.Disk.told g.D.Disk.size g.D.Disk.may_leave g.D.Disk.moment g.D.Disk.left_since g.met.D.Disk.only_now _ _ (LooseCut c.args.to) c.requires.durable (LooseCut-itself _) c.cut.ensures.crash c.cut.ensures.time
+
+pub returns-clause-any_moment : goal.returns-clause-any_moment
+returns-clause-any_moment g c =
+    sync_leaves g.D.Disk.told g.D.Disk.size g.D.Disk.may_leave g.D.Disk.moment g.D.Disk.left_since g.met.D.Disk.only_now _ _ _ (LooseCut c.args.to) c.requires.durable (LooseCut-itself _) c.cut.ensures.crash c.cut.ensures.time c.sync.ensures.crash c.sync.ensures.time
