@@ -1,0 +1,6 @@
+pub mod Asked
+pub mod Faults
+pub mod Kinds
+pub mod Names
+pub mod Policies
+pub mod PolicyLaws
