@@ -1,0 +1,3 @@
+pub mod BestSoFar
+pub mod LeftLemmas
+pub mod MatchLemmas
