@@ -1,0 +1,10 @@
+pub mod AnswerLaws
+pub mod Latest
+pub mod Members
+pub mod Put
+pub mod Rising
+pub mod RowsSoFar
+pub mod SeriesLaws
+pub mod Tallies
+pub mod TurnCuts
+pub mod TurnLaws

@@ -1,0 +1,10 @@
+pub mod Accepted
+pub mod AcceptedLaws
+pub mod Answer
+pub mod Bucket
+pub mod History
+pub mod HistoryLaws
+pub mod Kept
+pub mod KeptLaws
+pub mod Series
+pub mod Turns
