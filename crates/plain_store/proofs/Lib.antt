@@ -1,0 +1,14 @@
+pub mod Loaded
+pub mod Making
+pub mod Meaning
+pub mod OneHistory
+pub mod OnLog
+pub mod Opening
+pub mod Options
+pub mod Reopening
+pub mod Serving
+pub mod Spelling
+pub mod Standing
+pub mod Steps
+pub mod Stored
+pub mod Turns

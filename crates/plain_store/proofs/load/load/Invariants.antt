@@ -1,0 +1,17 @@
+use Rattle.std.proofs.Common.{◌≡◌, ◌≤◌, false}
+use Rattle.gno_disk.specs.Disk.{NoMore}
+use Rattle.gate_log.specs.LogView.{IsDurable}
+use Rattle.plain_store.specs.Loading.{IsLoaded}
+use Rattle.plain_store.proofs.load.load.Given as goal
+
+abbrev pub invariant-loop-index : goal.invariant-loop-index
+invariant-loop-index g l = record {
+  whole : l.log.broken ≡ false;
+  count : l.log.count ≡ l.fn.log.count;
+  records : l.log.records ≡ l.fn.log.records;
+  told : g.D.Disk.told l.log.disk ≡ g.D.Disk.told l.fn.log.disk;
+  later : g.D.Disk.faults l.fn.log.disk ≤ g.D.Disk.faults l.log.disk;
+  durable : IsDurable g.D.Disk.may_leave l.log;
+  no_more : NoMore (g.D.Disk.may_leave l.fn.log.disk) (g.D.Disk.may_leave l.log.disk);
+  loaded : IsLoaded l.fn.log.records l.index l.posts.items l.done;
+}
