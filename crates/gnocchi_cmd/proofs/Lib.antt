@@ -1,0 +1,10 @@
+pub mod Acknowledged
+pub mod Advance
+pub mod Complete
+pub mod Digits
+pub mod Ending
+pub mod Feeding
+pub mod Lines
+pub mod NoFault
+pub mod Objects
+pub mod Pieces

@@ -1,0 +1,9 @@
+pub mod Feeding
+pub mod Line
+pub mod Measures
+pub mod Numbers
+pub mod Progress
+pub mod Script
+pub mod Session
+pub mod Status
+pub mod Words

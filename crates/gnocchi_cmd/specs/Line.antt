@@ -1,0 +1,54 @@
+-- What a line asks for.
+use Rattle.std.specs.Prelude.{ℕ, ◌==◌, if◌then◌else◌, Bool, true, List, [], ◌∷◌, ◌++◌, Option, Some, None, codes}
+use Rattle.std.specs.Str.{bytes_eq}
+use Rattle.archive_policy.specs.declared.definition.Definition.{Definition}
+use Rattle.archive_policy.specs.declared.kind.Kind.{Kind}
+use Rattle.archive_policy.specs.declared.kind.Kind.TheVariants.{Mean, Count}
+use Rattle.series_model.specs.declared.measure.Measure.{Measure}
+use Rattle.plain_store.specs.declared.request.Request.{Request}
+use Rattle.plain_store.specs.declared.request.Request.TheVariants.{Nothing, Work, Post, Get, Other}
+use Rattle.gnocchi_cmd.specs.Numbers.{◌>>=◌, after}
+use Rattle.gnocchi_cmd.specs.Measures.{measures_in}
+use Rattle.plain_store.specs.Policy.{minute, five_minutes}
+
+-- a line that asks for nothing: empty, or a comment
+abbrev pub is_ignored : List ℕ → Bool
+is_ignored [] = true
+is_ignored (b ∷ bytes) = b == 35
+
+-- what a line asks for that posts these measures, if it does
+abbrev pub post_or_other : Option (List Measure) → Request
+post_or_other None = Other
+post_or_other (Some measures) = Post measures
+
+-- what a line asks for that may post measures
+abbrev pub post_of : List ℕ → Request
+post_of line =
+    post_or_other (after (codes "POST /v1/metric/00000001-0000-8000-8000-000000000001/measures ") line >>= measures_in)
+
+-- the line of a query
+abbrev pub query_text : List ℕ → List ℕ → List ℕ
+query_text granularity kind =
+    codes "GET /v1/metric/00000001-0000-8000-8000-000000000001/measures?granularity="
+    ++ granularity ++ codes "&aggregation=" ++ kind
+
+-- the definition and kind that a line asks the rows of, if it does
+unfoldable pub query_of : List ℕ → Option (Definition × Kind)
+query_of line =
+    if bytes_eq line (query_text (codes "60") (codes "mean")) then Some (minute, Mean)
+    else if bytes_eq line (query_text (codes "60") (codes "count")) then Some (minute, Count)
+    else if bytes_eq line (query_text (codes "300") (codes "mean")) then Some (five_minutes, Mean)
+    else if bytes_eq line (query_text (codes "300") (codes "count")) then Some (five_minutes, Count)
+    else None
+
+-- what a line asks for that is a query, or may post measures
+abbrev pub get_or_post : List ℕ → Option (Definition × Kind) → Request
+get_or_post line None = post_of line
+get_or_post line (Some query) = Get query.0 query.1
+
+-- what a line asks for
+unfoldable pub request_of : List ℕ → Request
+request_of line =
+    if is_ignored line then Nothing
+    else if bytes_eq line (codes "WORK") then Work
+    else get_or_post line (query_of line)
