@@ -1,8 +1,12 @@
 -- A log that is read, record by record.
-use Rattle.std.proofs.Common.{◌≡◌, ℕ, ◌+◌, ◌<◌, ◌≤◌, List, [], ◌∷◌, ◌++◌, Option, Some, None, IfSome, length, take, drop, sym, ap, subst, ◌∙◌, arith, append_assoc}
+use Rattle.std.proofs.Common.{◌≡◌, ℕ, ◌+◌, ◌-◌, ◌^◌, ◌<◌, ◌≤◌, min, List, [], ◌∷◌, ◌++◌, Option, Some, None, IfSome, inr, length, take, drop, sym, ap, subst, ◌∙◌, arith, append_assoc, length-append}
 use Rattle.std.specs.List.{slice_get}
 use Rattle.std.proofs.lemmas.List.{take_more, take-append-drop, append_cancel_left}
 use Rattle.std.proofs.lemmas.Option.{slice_get_within, get_or_from_slice_get}
+use Rattle.std.proofs.lemmas.Grind.{flat_map-append}
+use Rattle.byteorder.specs.Endian.{big_bytes}
+use Rattle.byteorder.specs.Numbers.{length-bytes_high_first}
+use Rattle.gate_log.specs.Records.{log_bytes, record_bytes}
 use Rattle.series_model.specs.declared.measure.Measure.{Measure}
 use Rattle.series_model.specs.History.{Entry, Post, Done, Look, Fault, Reopened}
 use Rattle.gno_codec.specs.Incoming.{post_bytes, IsPost, IsIncoming, incoming_bytes}
@@ -11,9 +15,9 @@ use Rattle.gno_codec.specs.declared.item.IncomingItem.TheVariants as items
 use Rattle.plain_store.specs.declared.tried.Tried.{Tried}
 use Rattle.plain_store.specs.declared.tried.Tried.TheVariants as tries
 use Rattle.plain_store.specs.Engine.{Stands, tried_entry}
-use Rattle.plain_store.specs.Loading.{TakesIn, IsRecordOf, IsOfNone, IsLoaded, IsNoHistory}
+use Rattle.plain_store.specs.Loading.{TakesIn, IsRecordOf, IsOfNone, IsLoaded, IsNoHistory, IsPlaced}
 use Rattle.plain_store.specs.Policy.{the_metric}
-use Rattle.plain_store.specs.Records.{done_bytes, entry_records, history_records, IsStoredFrom, IsStored}
+use Rattle.plain_store.specs.Records.{done_bytes, entry_records, history_records, place_of, IsOddAt, IsStoredFrom, IsStored}
 use Rattle.plain_store.proofs.OneHistory.{same_front}
 use Rattle.plain_store.proofs.Spelling.{same_post, no_post_is_done}
 use Rattle.plain_store.proofs.Standing.{Stands-post, Stands-done}
@@ -56,6 +60,25 @@ loaded_more records index posts more done upto body tried at is t l =
       read = read_on records index l.history own body at is.1 l.read;
     }
 
+-- ---- the place of a record
+
+log_long : (xs : List (List ℕ)) (body : List ℕ) → length (log_bytes (xs ++ body ∷ [])) ≡ length (log_bytes xs) + 9 + length body
+log_long xs body =
+    omega (arith, ap length (flat_map-append record_bytes xs (body ∷ [])), length-append (log_bytes xs) (record_bytes body ++ []), length-append (record_bytes body) [], length-append (1 ∷ big_bytes 8 (length body)) body, length-bytes_high_first 8 (length body))
+
+place_more : (rs : List (List ℕ)) (index : ℕ) (body : List ℕ) (at mid after : ℕ) → slice_get rs index ≡ Some body → at ≡ place_of rs index
+    → mid ≡ min (at + 9) (2 ^ 64 - 1) → after ≡ min (mid + length body) (2 ^ 64 - 1) → after ≡ place_of rs (index + 1)
+place_more rs index body at mid after is here half whole =
+    let cut : take (index + 1) rs ≡ take index rs ++ body ∷ [] =
+    take_more rs index [] (slice_get_within rs index body is) ∙ ap (λ b. take index rs ++ b ∷ []) (get_or_from_slice_get rs index body [] is) in
+    let long : length (log_bytes (take (index + 1) rs)) ≡ length (log_bytes (take index rs)) + 9 + length body = ap (λ (xs : List (List ℕ)). length (log_bytes xs)) cut ∙ log_long (take index rs) body in
+    omega (arith, here, half, whole, long)
+
+pub placed_more : (records : Option (List (List ℕ))) (index : ℕ) (body : List ℕ) (at mid after : ℕ) → IfSome records (λ rs. slice_get rs index ≡ Some body) → IsPlaced records index at
+    → mid ≡ min (at + 9) (2 ^ 64 - 1) → after ≡ min (mid + length body) (2 ^ 64 - 1) → IsPlaced records (index + 1) after
+placed_more None index body at mid after is here half whole = tt
+placed_more (Some rs) index body at mid after is here half whole = place_more rs index body at mid after is here half whole
+
 -- ---- a record that none may have there
 
 first_of : (p d : ℕ) (rest : List Entry) (body : List ℕ) (more : List (List ℕ)) → IsStoredFrom p d rest → entry_records rest ≡ body ∷ more
@@ -83,15 +106,46 @@ drop_at rs index body at =
     ∙ append_assoc (take index rs) (body ∷ []) (drop (index + 1) rs) in
     append_cancel_left (take index rs) (drop index rs) (body ∷ drop (index + 1) rs) cut
 
+never : (posts : List (List Measure)) (done : ℕ) (h other : List Entry) (body : List ℕ) (more : List (List ℕ))
+    → IsOfNone (length posts) done body → IsStored h → Stands posts done h → IsStored other → history_records other ≡ history_records h ++ (body ∷ more) → ⊥
+never posts done h other body more odd stored stands sother whole =
+    let r = same_front 0 0 h other (body ∷ more) (omega arith) stored sother (tail_is (entry_records other) (entry_records h ++ (body ∷ more)) _ whole) in
+    let next = stored_next posts done h r.0 stands (subst IsStored r.1 sother) in
+    let f = first_of (length posts) done r.0 body more next r.2 in
+    odd f.0 f.1 f.2
+
 no_history : (rs : List (List ℕ)) (index : ℕ) (posts : List (List Measure)) (done : ℕ) (h : List Entry) (body : List ℕ)
     → slice_get rs index ≡ Some body → IsOfNone (length posts) done body → IsStored h → Stands posts done h → take index rs ≡ history_records h → IsNoHistory rs
 no_history rs index posts done h body at odd stored stands read = λ other sother is.
-    let whole : history_records other ≡ history_records h ++ (body ∷ drop (index + 1) rs) =
-    sym is ∙ sym (take-append-drop index rs) ∙ ap (λ front. front ++ drop index rs) read ∙ ap (λ r. history_records h ++ r) (drop_at rs index body at) in
-    let r = same_front 0 0 h other (body ∷ drop (index + 1) rs) (omega arith) stored sother (tail_is (entry_records other) (entry_records h ++ (body ∷ drop (index + 1) rs)) _ whole) in
-    let next = stored_next posts done h r.0 stands (subst IsStored r.1 sother) in
-    let f = first_of (length posts) done r.0 body (drop (index + 1) rs) next r.2 in
-    odd f.0 f.1 f.2
+    never posts done h other body (drop (index + 1) rs) odd stored stands sother
+    (sym is ∙ sym (take-append-drop index rs) ∙ ap (λ front. front ++ drop index rs) read ∙ ap (λ r. history_records h ++ r) (drop_at rs index body at))
+
+-- so damage stands at its place
+odd_at : (rs : List (List ℕ)) (index : ℕ) (posts : List (List Measure)) (done : ℕ) (h : List Entry) (body : List ℕ) (place : ℕ)
+    → slice_get rs index ≡ Some body → IsOfNone (length posts) done body → IsStored h → Stands posts done h → take index rs ≡ history_records h
+    → place ≡ place_of rs index → IsOddAt rs place
+odd_at rs index posts done h body place at odd stored stands read is =
+    record {
+      index = index;
+      at_is = is;
+      before = inr (h, stored, read);
+      odd = λ other sother whole.
+          never posts done h other body [] odd stored stands sother
+          (sym whole ∙ take_more rs index [] (slice_get_within rs index body at)
+          ∙ ap (λ b. take index rs ++ b ∷ []) (get_or_from_slice_get rs index body [] at)
+          ∙ ap (λ front. front ++ body ∷ []) read);
+    }
+
+odd_in : (records : Option (List (List ℕ))) (index : ℕ) (posts : List (List Measure)) (done : ℕ) (h : List Entry) (body : List ℕ) (place : ℕ)
+    → IfSome records (λ rs. slice_get rs index ≡ Some body) → IsOfNone (length posts) done body → IsStored h → Stands posts done h
+    → IfSome records (λ rs. take index rs ≡ history_records h) → IsPlaced records index place → IfSome records (λ rs. IsOddAt rs place)
+odd_in None index posts done h body place at odd stored stands read is = tt
+odd_in (Some rs) index posts done h body place at odd stored stands read is = odd_at rs index posts done h body place at odd stored stands read is
+
+pub loaded_odd : (records : Option (List (List ℕ))) (index : ℕ) (posts : List (List Measure)) (done : ℕ) (body : List ℕ) (place : ℕ)
+    → IfSome records (λ rs. slice_get rs index ≡ Some body) → IsOfNone (length posts) done body
+    → IsLoaded records index posts done → IsPlaced records index place → IfSome records (λ rs. IsOddAt rs place)
+loaded_odd records index posts done body place at odd l is = odd_in records index posts done l.history body place at odd l.stored l.stands l.read is
 
 none_in : (records : Option (List (List ℕ))) (index : ℕ) (posts : List (List Measure)) (done : ℕ) (h : List Entry) (body : List ℕ)
     → IfSome records (λ rs. slice_get rs index ≡ Some body) → IsOfNone (length posts) done body → IsStored h → Stands posts done h

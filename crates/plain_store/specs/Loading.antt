@@ -5,7 +5,7 @@ use Rattle.series_model.specs.History.{Entry}
 use Rattle.plain_store.specs.declared.tried.Tried.{Tried}
 use Rattle.plain_store.specs.declared.tried.Tried.TheVariants as tries
 use Rattle.plain_store.specs.Engine.{Stands, tried_entry}
-use Rattle.plain_store.specs.Records.{entry_records, history_records, IsStored, IsStoredFrom}
+use Rattle.plain_store.specs.Records.{entry_records, history_records, IsStored, IsStoredFrom, place_of}
 
 -- an entry more: a post comes to the end of the posts, a turn ends at its number
 abbrev pub TakesIn : Tried → List (List Measure) → ℕ → List (List Measure) → ℕ → Type 0
@@ -33,3 +33,7 @@ pub record IsLoaded (records : Option (List (List ℕ))) (count : ℕ) (posts : 
 -- no history that a log can have has these records
 abbrev pub IsNoHistory : List (List ℕ) → Type 0
 IsNoHistory records = (history : List Entry) → IsStored history → records ≡ history_records history → ⊥
+
+-- the record with this index stands at this place
+abbrev pub IsPlaced : Option (List (List ℕ)) → ℕ → ℕ → Type 0
+IsPlaced records index at = IfSome records (λ rs. at ≡ place_of rs index)

@@ -1,7 +1,8 @@
 -- The records of the log.
-use Rattle.std.specs.Prelude.{ℕ, ◌+◌, ◌<◌, ◌≤◌, ◌≡◌, List, [], ◌∷◌, ◌++◌, length, take, codes, ⊤}
+use Rattle.std.specs.Prelude.{ℕ, ◌+◌, ◌-◌, ◌^◌, ◌<◌, ◌≤◌, ◌≡◌, ◌⊎◌, min, List, [], ◌∷◌, ◌++◌, length, take, codes, ⊤}
 use Rattle.byteorder.specs.Endian.{big_bytes}
 use Rattle.gno_codec.specs.Incoming.{post_bytes, IsPost}
+use Rattle.gate_log.specs.Records.{Holds, IsDamaged, log_bytes}
 use Rattle.series_model.specs.History.{Entry, Post, Done, Look, Fault, Reopened}
 use Rattle.plain_store.specs.Policy.{the_metric}
 
@@ -47,3 +48,20 @@ IsStoredFrom posts done (Reopened kept ∷ entries) = ⊥
 -- some of the first 64 posts that wait.
 abbrev pub IsStored : List Entry → Type 0
 IsStored history = IsStoredFrom 0 0 history
+
+-- The place of a record on the disk: behind those before it, each of which has a gate, a length and
+-- its body. It stands still at the last value of its type.
+abbrev pub place_of : List (List ℕ) → ℕ → ℕ
+place_of records index = min (length (log_bytes (take index records))) (2 ^ 64 - 1)
+
+-- the first record that no history explains stands at this place
+pub record IsOddAt (records : List (List ℕ)) (at : ℕ) : Type 0 where
+  pub index : ℕ
+  pub at_is : at ≡ place_of records index
+  pub before : (index ≡ 0) ⊎ ((history : List Entry) × IsStored history × (take index records ≡ history_records history))
+  pub odd : (history : List Entry) → IsStored history → take (index + 1) records ≡ history_records history → ⊥
+
+-- the bytes are damaged at this place: they are cut short there, or hold records of which the first
+-- that no history explains stands there
+abbrev pub IsDamagedAt : List ℕ → ℕ → Type 0
+IsDamagedAt bytes at = IsDamaged bytes at ⊎ ((records : List (List ℕ)) × Holds bytes records × IsOddAt records at)

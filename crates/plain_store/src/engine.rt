@@ -7,7 +7,7 @@ ghost use Rattle.series_model.specs.Answer.{answer_of};
 ghost use Rattle.gate_log.specs.Records.{Holds};
 ghost use Rattle.gate_log.specs.LogView.{IsFault, MatchFault, MatchMountFault};
 ghost use Rattle.plain_store.specs.Policy.{the_metric};
-ghost use Rattle.plain_store.specs.Records.{IsStored, history_records};
+ghost use Rattle.plain_store.specs.Records.{IsStored, IsDamagedAt, history_records};
 ghost use Rattle.plain_store.specs.Reply.{accepted_by, turn_count};
 ghost use Rattle.plain_store.specs.Fate.{IsWritten, cut_short};
 
@@ -89,7 +89,8 @@ impl<D: Disk> Engine<D> {
         // Bytes that hold a history aren't damaged.
         ensures cause { IfErr result (λ e. MatchMountFault e.1
             (λ f. (D.faults disk ≤ f.before) × (f.after ≡ D.faults e.0) × Rose f.before f.after)
-            (λ d. (d.disk ≡ 0) × IfSome (D.told disk) (λ bytes. (history : List Entry) → IsStored history → Holds bytes (history_records history) → ⊥))
+            (λ d. (d.disk ≡ 0) × IfSome (D.told disk) (λ bytes. (history : List Entry) → IsStored history → Holds bytes (history_records history) → ⊥)
+            × IfSome (D.told disk) (λ bytes. IsDamagedAt bytes d.at))
             (D.faults disk ≤ D.faults e.0)) }
         ensures later_err { IfErr result (λ e. D.faults disk ≤ D.faults e.0) }
     {

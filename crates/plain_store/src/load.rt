@@ -4,8 +4,8 @@ ghost use Rattle.gno_disk.specs.Disk.{NoMore};
 ghost use Rattle.gate_log.specs.LogView.{IsDurable, IsFault, MatchMountFault};
 ghost use Rattle.gno_num.specs.Faults.{Rose};
 ghost use Rattle.plain_store.specs.Policy.{the_metric};
-ghost use Rattle.plain_store.specs.Records.{done_bytes};
-ghost use Rattle.plain_store.specs.Loading.{IsRecordOf, IsOfNone, IsLoaded, IsNoHistory};
+ghost use Rattle.plain_store.specs.Records.{done_bytes, IsOddAt};
+ghost use Rattle.plain_store.specs.Loading.{IsRecordOf, IsOfNone, IsLoaded, IsNoHistory, IsPlaced};
 
 use crate::policy::built_in_metric;
 use crate::record::{header, read_done};
@@ -91,7 +91,9 @@ fn load_one<D: Disk>(
     requires known { index < log.old.count }
     requires whole { log.old.broken ≡ false }
     requires loaded { IsLoaded log.old.records index posts.old.items done.old }
+    requires placed { IsPlaced log.old.records index at.old }
     ensures loaded { OnOk result (IsLoaded log.old.records (index + 1) posts.new.items done.new) }
+    ensures placed { OnOk result (IsPlaced log.old.records (index + 1) at.new) }
     ensures fits { OnOk result ((log.new.broken ≡ false) × (log.new.count ≡ log.old.count)) }
     ensures durable { OnOk result (IsDurable D.may_leave log.new) }
     ensures records { log.new.records ≡ log.old.records }
@@ -100,7 +102,7 @@ fn load_one<D: Disk>(
     ensures later { D.faults log.old.disk ≤ D.faults log.new.disk }
     ensures cause { IfErr result (λ e. MatchMountFault e
         (IsFault (D.faults log.old.disk) (D.faults log.new.disk))
-        (λ d. (d.disk ≡ 0) × IfSome log.old.records IsNoHistory) ⊤) }
+        (λ d. (d.disk ≡ 0) × IfSome log.old.records IsNoHistory × IfSome log.old.records (λ rs. IsOddAt rs d.at)) ⊤) }
 {
     let body = read_record(alloc, log, index)?;
     if posts.reserve(1).is_err() {
@@ -121,6 +123,7 @@ fn load_one<D: Disk>(
 fn load_header<D: Disk>(alloc: Global, log: &mut Log<D>) -> Result<(), MountFault>
     requires whole { log.old.broken ≡ false }
     ensures loaded { OnOk result (IsLoaded log.old.records 1 [] 0) }
+    ensures placed { OnOk result (IsPlaced log.old.records 1 27) }
     ensures fits { OnOk result ((0 < log.old.count) × (log.new.broken ≡ false)) }
     ensures durable { OnOk result (IsDurable D.may_leave log.new) }
     ensures records { log.new.records ≡ log.old.records }
@@ -130,7 +133,7 @@ fn load_header<D: Disk>(alloc: Global, log: &mut Log<D>) -> Result<(), MountFaul
     ensures later { D.faults log.old.disk ≤ D.faults log.new.disk }
     ensures cause { IfErr result (λ e. MatchMountFault e
         (IsFault (D.faults log.old.disk) (D.faults log.new.disk))
-        (λ d. (d.disk ≡ 0) × IfSome log.old.records IsNoHistory) ⊤) }
+        (λ d. (d.disk ≡ 0) × IfSome log.old.records IsNoHistory × IfSome log.old.records (λ rs. IsOddAt rs d.at)) ⊤) }
 {
     if log.count() > 0 {
         let body = read_record(alloc, log, 0)?;
@@ -153,10 +156,10 @@ pub fn load<D: Disk>(alloc: Global, log: &mut Log<D>) -> Result<(Vec<Batch>, u64
     ensures told { D.told log.new.disk ≡ D.told log.old.disk }
     ensures no_more { NoMore (D.may_leave log.old.disk) (D.may_leave log.new.disk) }
     ensures later { D.faults log.old.disk ≤ D.faults log.new.disk }
-    // Damage is told where the records are those of no history.
+    // Damage is told where the records are those of no history, at the first that none explains.
     ensures cause { IfErr result (λ e. MatchMountFault e
         (λ f. (D.faults log.old.disk ≤ f.before) × (f.after ≡ D.faults log.new.disk) × Rose f.before f.after)
-        (λ d. (d.disk ≡ 0) × IfSome log.old.records IsNoHistory) ⊤) }
+        (λ d. (d.disk ≡ 0) × IfSome log.old.records IsNoHistory × IfSome log.old.records (λ rs. IsOddAt rs d.at)) ⊤) }
 {
     let count = log.count();
     load_header(alloc, log)?;

@@ -1,7 +1,7 @@
 use Rattle.std.proofs.Common.{◌≡◌, ◌≤◌, false}
 use Rattle.gno_disk.specs.Disk.{NoMore}
 use Rattle.gate_log.specs.LogView.{IsDurable}
-use Rattle.plain_store.specs.Loading.{IsLoaded}
+use Rattle.plain_store.specs.Loading.{IsLoaded, IsPlaced}
 use Rattle.plain_store.proofs.load.load.Given as goal
 
 abbrev pub invariant-loop-index : goal.invariant-loop-index
@@ -13,5 +13,6 @@ invariant-loop-index g l = record {
   later : g.D.Disk.faults l.fn.log.disk ≤ g.D.Disk.faults l.log.disk;
   durable : IsDurable g.D.Disk.may_leave l.log;
   no_more : NoMore (g.D.Disk.may_leave l.fn.log.disk) (g.D.Disk.may_leave l.log.disk);
+  placed : IsPlaced l.fn.log.records l.index l.at;
   loaded : IsLoaded l.fn.log.records l.index l.posts.items l.done;
 }
