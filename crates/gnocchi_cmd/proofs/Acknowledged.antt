@@ -1,7 +1,6 @@
 -- Posts that were acknowledged.
-use Rattle.std.proofs.Common.{◌≡◌, ℕ, ◌+◌, Bool, true, false, List, [], ◌∷◌, ◌++◌, map, Option, Some, None, refl, sym, ap, subst, ◌∙◌, append-nil, append_assoc}
+use Rattle.std.proofs.Common.{◌≡◌, ℕ, Bool, true, false, List, [], ◌∷◌, ◌++◌, Option, refl, sym, ap, subst, ◌∙◌, append-nil, append_assoc}
 use Rattle.std.specs.Prelude.{codes}
-use Rattle.std.specs.Fmt.{decimal}
 use Rattle.series_model.specs.declared.measure.Measure.{Measure}
 use Rattle.series_model.specs.History.{Entry, Post, next_number}
 use Rattle.series_model.specs.Kept.{kept, kept_onto, tried_onto}
@@ -9,7 +8,7 @@ use Rattle.series_model.specs.KeptLaws.{kept-post, kept_onto-append}
 use Rattle.plain_store.specs.declared.request.Request.{Request}
 use Rattle.plain_store.specs.declared.request.Request.TheVariants as asked
 use Rattle.plain_store.specs.Policy.{the_metric}
-use Rattle.plain_store.specs.Fate.{Fate, Answered, Failed, Unopened, Starved, opening, own, answer_to, fault_reply}
+use Rattle.plain_store.specs.Fate.{Fate, Answered, Failed, Unopened, Starved, opening, own, answer_to}
 use Rattle.gnocchi_cmd.specs.Line.{request_of}
 use Rattle.gnocchi_cmd.specs.Session.{entries_of, reply_to, history_onto, IsPosted}
 

@@ -1,5 +1,5 @@
 -- Which status an input has while no count rises.
-use Rattle.std.proofs.Common.{◌≡◌, ◌≢◌, ℕ, ◌^◌, ◌<◌, List, [], ◌∷◌, ◌++◌, ◌⊎◌, inl, inr, ⊎_elim, Option, Some, IfSome, length, refl, sym, subst, arith}
+use Rattle.std.proofs.Common.{◌≡◌, ℕ, ◌^◌, ◌<◌, List, [], ◌∷◌, ◌++◌, ◌⊎◌, inl, inr, ⊎_elim, Option, Some, IfSome, length, refl, subst, arith}
 use Rattle.series_model.specs.History.{Entry}
 use Rattle.plain_store.specs.Fate.{Fate}
 use Rattle.gno_num.specs.declared.faults.Damaged.{Damaged as Damage}
@@ -12,6 +12,7 @@ use Rattle.gnocchi_cmd.specs.Status.{Outcome, Ran, RanFrom, IsUncreated, IsUnope
 use Rattle.gnocchi_cmd.specs.declared.command.Command.{Command}
 use Rattle.gnocchi_cmd.specs.declared.command.Command.TheVariants as commands
 use Rattle.gno_num.specs.Faults.{Rose}
+use Rattle.plain_store.specs.Records.{IsDamagedAt}
 use Rattle.std.specs.Io.KnownBytes.{Appends}
 use Rattle.gnocchi_cmd.proofs.Ending.{some_weaker}
 use Rattle.gnocchi_cmd.proofs.Lines.{finished}
@@ -75,7 +76,7 @@ module _ {D : Type 0} (told : D → Option (List ℕ)) (may_leave : D → List �
       → IfSome left (λ input. (out : List ℕ) × Appends before after out × (RanFrom told may_leave faults old new status input out ⊎ IsUnopened told may_leave old new status out))
 
   abbrev Caused : Type 0
-  Caused = HasCause status read write (Rose (faults old) (faults new)) (λ d. (command ≡ commands.Replay) × (d.disk ≡ 0) × IfSome (told old) HoldsNoHistory)
+  Caused = HasCause status read write (Rose (faults old) (faults new)) (λ d. (command ≡ commands.Replay) × (d.disk ≡ 0) × IfSome (told old) HoldsNoHistory × IfSome (told old) (λ bytes. IsDamagedAt bytes d.at))
 
   abbrev Quiet : Type 0 → Type 0
   Quiet P = P → ⊥
@@ -83,11 +84,11 @@ module _ {D : Type 0} (told : D → Option (List ℕ)) (may_leave : D → List �
   -- memory ran out where nothing else did
   uncreated : Quiet (Rose (faults old) (faults new)) → Caused → (out : List ℕ) → IsUncreated told may_leave old new status out → status ≡ Memory
   uncreated no_disk cause out u =
-      ⊎_elim (λ is. absurd (no_disk (subst (λ (s : Status). HasCause s read write (Rose (faults old) (faults new)) (λ d. (command ≡ commands.Replay) × (d.disk ≡ 0) × IfSome (told old) HoldsNoHistory)) is cause))) (λ is. is) u.status_is
+      ⊎_elim (λ is. absurd (no_disk (subst (λ (s : Status). HasCause s read write (Rose (faults old) (faults new)) (λ d. (command ≡ commands.Replay) × (d.disk ≡ 0) × IfSome (told old) HoldsNoHistory × IfSome (told old) (λ bytes. IsDamagedAt bytes d.at))) is cause))) (λ is. is) u.status_is
 
   unopened : Quiet (Rose (faults old) (faults new)) → Caused → HasHistory (told old) → (out : List ℕ) → IsUnopened told may_leave old new status out → status ≡ Memory
   unopened no_disk cause has out u =
-      of_opening status read write (Rose (faults old) (faults new)) (λ d. (command ≡ commands.Replay) × (d.disk ≡ 0) × IfSome (told old) HoldsNoHistory) no_disk
+      of_opening status read write (Rose (faults old) (faults new)) (λ d. (command ≡ commands.Replay) × (d.disk ≡ 0) × IfSome (told old) HoldsNoHistory × IfSome (told old) (λ bytes. IsDamagedAt bytes d.at)) no_disk
       (λ d damage. (subst (λ o. IfSome o HoldsNoHistory) has.told_are damage.2) has.history has.stored has.held) u.status_is cause
 
   pub all_answered : IsReplayable told (Some command) old → Quiet read → Quiet write → Quiet (Rose (faults old) (faults new)) → Caused → Over → From

@@ -1,19 +1,16 @@
 -- How a run ends, and what it leaves on its disk.
-use Rattle.std.proofs.Common.{◌≡◌, ◌≢◌, ◌⊎◌, inl, inr, ⊎_elim, ℕ, ◌≤◌, List, [], ◌∷◌, ◌++◌, take, Option, Some, None, IfSome, Result, Ok, Err, refl, sym, ap, subst, ◌∙◌, append-nil, arith}
-use Rattle.std.specs.Prelude.{OnOk, IfErr, codes, is_some}
+use Rattle.std.proofs.Common.{◌≡◌, ◌≢◌, ◌⊎◌, inl, inr, ⊎_elim, ℕ, ◌≤◌, List, [], take, Option, Some, None, IfSome, Result, Ok, Err, refl, sym, subst, ◌∙◌, append-nil}
+use Rattle.std.specs.Prelude.{OnOk, IfErr, codes}
 use Rattle.std.specs.List.{flat_map}
 use Rattle.std.specs.Io.KnownBytes.{Appends}
 use Rattle.gate_log.specs.LogView.{MatchFault, MatchMountFault}
-use Rattle.gate_log.specs.Records.{Holds}
 use Rattle.gate_log.specs.declared.fault.LogFault.{LogFault}
 use Rattle.gate_log.specs.declared.fault.LogFault.TheVariants.{DiskFault, Memory as NoMemory}
 use Rattle.gate_log.specs.declared.fault.MountFault.{MountFault}
 use Rattle.gate_log.specs.declared.fault.MountFault.TheVariants.{DiskFault as MountDisk, Damaged as MountDamaged, Memory as MountMemory}
-use Rattle.gno_num.specs.Faults.{Rose}
 use Rattle.series_model.specs.History.{Entry}
 use Rattle.plain_store.specs.Engine.{EngineView, StandsFor, IsDurable, IsUnmade}
 use Rattle.plain_store.specs.Fate.{Fate}
-use Rattle.plain_store.specs.Records.{IsStored, history_records}
 use Rattle.gnocchi_cmd.specs.declared.status.Status.{Status}
 use Rattle.gnocchi_cmd.specs.declared.status.Status.TheVariants as statuses
 use Rattle.gnocchi_cmd.specs.declared.stop.Stop.{Stop}

@@ -1,19 +1,18 @@
 -- One byte more of the input.
-use Rattle.std.proofs.Common.{◌≡◌, ◌≢◌, ℕ, ◌+◌, ◌<◌, ◌≤◌, List, [], ◌∷◌, ◌++◌, map, length, take, drop, Option, Some, None, Result, Ok, Err, IfSome, inl, refl, sym, ap, subst, ◌∙◌, append-nil, append_assoc, take-append-drop, length-append, arith}
+use Rattle.std.proofs.Common.{◌≡◌, ◌≢◌, ℕ, ◌+◌, ◌<◌, ◌≤◌, List, [], ◌∷◌, ◌++◌, length, take, drop, Option, Some, None, Result, Ok, Err, IfSome, inl, refl, sym, ap, subst, ◌∙◌, append-nil, append_assoc, take-append-drop, length-append, arith}
 use Rattle.std.specs.Prelude.{is_some, OnErr}
 use Rattle.std.specs.List.{All, flat_map}
-use Rattle.std.specs.Io.KnownBytes.{Appends}
 use Rattle.std.proofs.lemmas.Grind.{common_steps, flat_map-append}
 use Rattle.std.proofs.lemmas.List.{take_all, map-append}
 use Rattle.std.proofs.lemmas.List.Elements.{All-nil, All-push, All-head, All-tail}
 use Rattle.series_model.specs.History.{Entry}
 use Rattle.plain_store.specs.Engine.{EngineView, StandsFor}
-use Rattle.plain_store.specs.Fate.{Fate, Answered, Failed, Unopened, Starved, own, answer_to, IsFate, IsCounted, IsUndamaged, HasReply}
+use Rattle.plain_store.specs.Fate.{Fate, Answered, Failed, Unopened, Starved, IsFate, IsCounted, IsUndamaged, HasReply}
 use Rattle.gnocchi_cmd.specs.declared.stop.Stop.{Stop}
 use Rattle.gnocchi_cmd.specs.declared.stop.Stop.TheVariants.{Input, Read, Write, Memory, TooMuch}
 use Rattle.gnocchi_cmd.specs.Feeding.{Becomes}
 use Rattle.gnocchi_cmd.specs.Line.{request_of}
-use Rattle.gnocchi_cmd.specs.Progress.{Follows, Reached, IsFront, IsLong, IsRefused, Stopped, Halted, IsOfLine}
+use Rattle.gnocchi_cmd.specs.Progress.{Follows, Reached, IsFront, Stopped, Halted, IsOfLine}
 use Rattle.gnocchi_cmd.specs.Script.{IsLine, ended}
 use Rattle.gnocchi_cmd.specs.Session.{lines_of, entries_of, reply_to, history_onto, transcript, AreFates, AreAnswered, AreAnsweredButLast, AreUndamaged}
 

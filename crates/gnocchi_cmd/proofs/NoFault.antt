@@ -1,17 +1,16 @@
 -- Sessions in which no disk fails.
-use Rattle.std.proofs.Common.{◌≡◌, ℕ, ◌≤◌, Bool, true, false, List, [], ◌∷◌, ◌++◌, map, Option, Some, None, refl, sym, ap, subst, ◌∙◌, append-nil, arith}
-use Rattle.std.specs.Prelude.{is_some, ◌&&◌}
-use Rattle.std.specs.List.{All}
+use Rattle.std.proofs.Common.{◌≡◌, ℕ, ◌≤◌, Bool, true, false, List, [], ◌∷◌, ◌++◌, map, Some, None, refl, sym, ap, subst, ◌∙◌, arith}
+use Rattle.std.specs.Prelude.{◌&&◌}
 use Rattle.std.proofs.lemmas.List.Elements.{All-head, All-tail}
 use Rattle.gno_num.specs.Faults.{Rose, Rose-from, Rose-until}
-use Rattle.series_model.specs.History.{Entry, Post, Done, Look, turn_ends, pending_numbers}
+use Rattle.series_model.specs.History.{Entry, Done, turn_ends, pending_numbers}
 use Rattle.series_model.specs.Kept.{kept, broken_onto, is_broken}
 use Rattle.series_model.specs.KeptLaws.{broken_onto-append}
 use Rattle.plain_store.specs.declared.request.Request.{Request}
 use Rattle.plain_store.specs.declared.request.Request.TheVariants as asked
 use Rattle.plain_store.specs.Policy.{the_metric}
 use Rattle.plain_store.specs.Reply.{added, turns_or_look}
-use Rattle.plain_store.specs.Fate.{Fate, Answered, Failed, Unopened, Starved, opening, own, uses_log, IsOpening, IsFate, IsCounted, HasReply}
+use Rattle.plain_store.specs.Fate.{Fate, Answered, Failed, Unopened, Starved, own, uses_log, IsOpening, IsFate, IsCounted, HasReply}
 use Rattle.gnocchi_cmd.specs.Line.{request_of}
 use Rattle.gnocchi_cmd.specs.Session.{lines_of, entries_of, AreFates, AreAnswered}
 

@@ -1,6 +1,6 @@
 -- The pieces of an input, one after another.
-use Rattle.std.proofs.Common.{◌≡◌, ◌≢◌, ℕ, ◌+◌, ◌^◌, ◌<◌, ◌≤◌, List, [], ◌∷◌, ◌++◌, length, take, Option, Some, None, IfSome, refl, sym, ap, subst, ◌∙◌, append-nil, append_assoc, length-append, arith}
-use Rattle.std.specs.List.{All, flat_map}
+use Rattle.std.proofs.Common.{◌≡◌, ◌≢◌, ℕ, ◌+◌, ◌^◌, ◌<◌, ◌≤◌, List, [], ◌++◌, length, Option, Some, None, IfSome, refl, sym, ap, subst, ◌∙◌, append-nil, append_assoc, length-append, arith}
+use Rattle.std.specs.List.{flat_map}
 use Rattle.std.specs.Io.KnownBytes.{Appends, Consumes, IsAtEnd}
 use Rattle.std.proofs.KnownBytes.{Appends-nil, Appends-trans, Consumes-nil, Consumes-trans, Consumes-whole}
 use Rattle.std.proofs.lemmas.List.Elements.{All-nil, All-take}
@@ -9,11 +9,11 @@ use Rattle.plain_store.specs.Engine.{EngineView, StandsFor}
 use Rattle.plain_store.specs.Fate.{Fate, IsUndamaged, HasReply}
 use Rattle.gnocchi_cmd.specs.declared.stop.Stop.{Stop}
 use Rattle.gnocchi_cmd.specs.declared.stop.Stop.TheVariants.{Input, Read, Write, Memory, TooMuch}
-use Rattle.gnocchi_cmd.specs.Progress.{Follows, Reached, IsFront, IsLong, IsRefused, IsUnfinished, IsAnswered, Stopped, Halted, Ended, Finished, Advances, IsOfPiece}
+use Rattle.gnocchi_cmd.specs.Progress.{Reached, IsRefused, IsUnfinished, IsAnswered, Stopped, Halted, Ended, Finished, Advances, IsOfPiece}
 use Rattle.gnocchi_cmd.specs.Script.{ended}
-use Rattle.gnocchi_cmd.specs.Session.{lines_of, AreUndamaged, AreAnswered}
+use Rattle.gnocchi_cmd.specs.Session.{lines_of, AreUndamaged}
 use Rattle.gnocchi_cmd.proofs.Feeding.{no_lines, empty_line, but_last}
-use Rattle.gnocchi_cmd.proofs.Advance.{stopped_more, HaltedBy}
+use Rattle.gnocchi_cmd.proofs.Advance.{stopped_more}
 
 -- what is left follows what was read
 pub within : (a b : Option (List ℕ)) (seen : List ℕ) (P : List ℕ → Type 0) → Consumes a b seen → ((rest : List ℕ) → P (seen ++ rest)) → IfSome a P

@@ -1,5 +1,5 @@
 -- How far an input has been answered.
-use Rattle.std.specs.Prelude.{◌≡◌, ◌≢◌, ◌^◌, ◌<◌, ◌≤◌, ℕ, List, [], ◌∷◌, ◌++◌, length, take, Option, IfSome, ⊤}
+use Rattle.std.specs.Prelude.{◌≡◌, ◌≢◌, ◌^◌, ◌<◌, ◌≤◌, ℕ, List, ◌++◌, length, take, Option, IfSome, ⊤}
 use Rattle.std.specs.List.{All, flat_map}
 use Rattle.std.specs.Io.KnownBytes.{Appends}
 use Rattle.series_model.specs.History.{Entry}
@@ -7,7 +7,7 @@ use Rattle.plain_store.specs.Engine.{EngineView, StandsFor}
 use Rattle.plain_store.specs.Fate.{Fate}
 use Rattle.gnocchi_cmd.specs.declared.stop.Stop.{Stop}
 use Rattle.gnocchi_cmd.specs.declared.stop.Stop.TheVariants.{Input, Read, Write, Memory, TooMuch}
-use Rattle.gnocchi_cmd.specs.Script.{IsLine, ended, AreLines}
+use Rattle.gnocchi_cmd.specs.Script.{IsLine, ended}
 use Rattle.gnocchi_cmd.specs.Session.{lines_of, history_onto, transcript, AreFates, AreAnswered, AreAnsweredButLast, AreUndamaged}
 
 -- The engine stands for the history that the lines make from the first one on, with fates that they

@@ -1,5 +1,5 @@
 -- What each status means.
-use Rattle.std.specs.Prelude.{◌≡◌, ◌⊎◌, ◌^◌, ◌<◌, ◌≤◌, ℕ, List, [], ◌∷◌, ◌++◌, length, take, Option, Some, Result, Ok, Err, IfSome, codes, ⊤}
+use Rattle.std.specs.Prelude.{◌≡◌, ◌⊎◌, ◌^◌, ◌≤◌, ℕ, List, [], ◌++◌, length, take, Option, Some, Result, Ok, Err, IfSome, codes, ⊤}
 use Rattle.std.specs.Fmt.{decimal}
 use Rattle.gno_num.specs.declared.faults.Damaged.{Damaged as Damage}
 use Rattle.series_model.specs.History.{Entry}

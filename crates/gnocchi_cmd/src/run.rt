@@ -5,7 +5,7 @@ ghost use Rattle.gno_num.specs.Faults.{Rose};
 ghost use Rattle.gate_log.specs.Records.{Holds};
 ghost use Rattle.series_model.specs.History.{Entry};
 ghost use Rattle.plain_store.specs.Engine.{StandsFor};
-ghost use Rattle.plain_store.specs.Records.{IsStored, history_records};
+ghost use Rattle.plain_store.specs.Records.{IsStored, IsDamagedAt, history_records};
 ghost use Rattle.gnocchi_cmd.specs.Progress.{IsUnfinished};
 ghost use Rattle.gnocchi_cmd.specs.Script.{AreLines};
 ghost use Rattle.gnocchi_cmd.specs.Status.{Ran, RanFrom, IsUncreated, IsUnopened, Made, HasHeader, HasCause, IsOfRun, IsReplayable, HoldsNoHistory};
@@ -59,13 +59,13 @@ pub fn run<S: Source, K: Sink, D: Disk>(
         → (result ≡ Status.Exists) ⊎ ((result ≡ Status.Disk) ⊎ (result ≡ Status.Memory)) }
 
     // A fault comes only where the count of its object rose in this call, and damage only where the
-    // bytes hold no history.
+    // bytes hold no history, at the place that is told.
     ensures cause { (old new : D) → disks.old.items ≡ old ∷ [] → disks.new.items ≡ new ∷ []
         → HasCause result
         (Rose (S.faults source.old) (S.faults source.new))
         (Rose (K.faults sink.old) (K.faults sink.new))
         (Rose (D.faults old) (D.faults new))
-        (λ d. (d.disk ≡ 0) × IfSome (D.told old) HoldsNoHistory) }
+        (λ d. (d.disk ≡ 0) × IfSome (D.told old) HoldsNoHistory × IfSome (D.told old) (λ bytes. IsDamagedAt bytes d.at)) }
 
     // Lines are all answered while no count rises, or there was no memory.
     ensures complete { (old new : D) → disks.old.items ≡ old ∷ [] → disks.new.items ≡ new ∷ [] → IsReplayable D.told (command_of (texts words.now)) old
@@ -122,7 +122,7 @@ fn perform<S: Source, K: Sink, D: Disk>(
         (Rose (S.faults source.old) (S.faults source.new))
         (Rose (K.faults sink.old) (K.faults sink.new))
         (Rose (D.faults disk) (D.faults result.0))
-        (λ d. (command ≡ Command.Replay) × (d.disk ≡ 0) × IfSome (D.told disk) HoldsNoHistory) }
+        (λ d. (command ≡ Command.Replay) × (d.disk ≡ 0) × IfSome (D.told disk) HoldsNoHistory × IfSome (D.told disk) (λ bytes. IsDamagedAt bytes d.at)) }
 {
     match command {
         Command::Create => create(alloc, disk, sink),
@@ -168,7 +168,7 @@ fn replay_store<S: Source, K: Sink, D: Disk>(
         (Rose (S.faults source.old) (S.faults source.new))
         (Rose (K.faults sink.old) (K.faults sink.new))
         (Rose (D.faults disk) (D.faults result.0))
-        (λ d. (d.disk ≡ 0) × IfSome (D.told disk) HoldsNoHistory) }
+        (λ d. (d.disk ≡ 0) × IfSome (D.told disk) HoldsNoHistory × IfSome (D.told disk) (λ bytes. IsDamagedAt bytes d.at)) }
 {
     match Engine::open(alloc, disk) {
         Ok(engine) => replay_onto(alloc, engine, source, sink),

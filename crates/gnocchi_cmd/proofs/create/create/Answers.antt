@@ -1,4 +1,4 @@
-use Rattle.std.proofs.Common.{[], ◌≡◌, sym, subst, IfSome, ◌∙◌}
+use Rattle.std.proofs.Common.{[], subst, IfSome}
 use Rattle.std.proofs.KnownBytes.{Appends-nil}
 use Rattle.gnocchi_cmd.specs.Status.{HasHeader}
 use Rattle.gnocchi_cmd.proofs.Ending.{made_before, never_made, of_log}

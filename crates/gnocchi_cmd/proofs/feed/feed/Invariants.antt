@@ -1,4 +1,4 @@
-use Rattle.std.proofs.Common.{◌≡◌, ◌≤◌, take}
+use Rattle.std.proofs.Common.{◌≤◌, take}
 use Rattle.gnocchi_cmd.specs.Progress.{Reached, Advances}
 use Rattle.gnocchi_cmd.proofs.feed.feed.Given as goal
 

@@ -1,11 +1,11 @@
-use Rattle.std.proofs.Common.{◌≡◌, ℕ, ◌<◌, List, [], ◌∷◌, ◌++◌, length, take, sym, subst, arith}
+use Rattle.std.proofs.Common.{◌≡◌, ℕ, ◌<◌, [], ◌∷◌, ◌++◌, length, take, sym, subst, arith}
 use Rattle.std.proofs.KnownBytes.{Appends-nil}
 use Rattle.std.proofs.lemmas.Result.{err_from_is_err_and}
 use Rattle.std.specs.Io.KnownBytes.{Appends}
 use Rattle.plain_store.specs.Fate.{Fate, answer_to, HasReply}
 use Rattle.gnocchi_cmd.specs.Feeding.{Becomes}
 use Rattle.gnocchi_cmd.specs.Line.{request_of}
-use Rattle.gnocchi_cmd.specs.Progress.{Reached, Halted}
+use Rattle.gnocchi_cmd.specs.Progress.{Reached}
 use Rattle.gnocchi_cmd.specs.Session.{history_onto, reply_to}
 use Rattle.gnocchi_cmd.proofs.Feeding.{after_line, halted_in_line, after_byte, halted_at_byte, too_long}
 use Rattle.gnocchi_cmd.proofs.feed.feed_byte.Goals as goal

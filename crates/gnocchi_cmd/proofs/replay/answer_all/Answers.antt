@@ -1,8 +1,6 @@
-use Rattle.std.proofs.Common.{◌≡◌, ◌<◌, [], List, ℕ, length, IfSome, ap, ◌∙◌, subst, sym, arith}
+use Rattle.std.proofs.Common.{◌≡◌, ◌<◌, [], List, ℕ, length, ◌∙◌, subst, sym, arith}
 use Rattle.std.proofs.lemmas.Result.{err_from_is_err_and, IfErr-weaker, on_ok_weaker}
-use Rattle.std.specs.Io.KnownBytes.{Appends}
 use Rattle.std.proofs.lemmas.Grind.{common_steps}
-use Rattle.gnocchi_cmd.specs.declared.stop.Stop.TheVariants.{Input}
 use Rattle.gnocchi_cmd.proofs.Pieces.{SoFar, nothing_yet, one_piece_more, piece_stopped, too_much, at_end, inside_line, early}
 use Rattle.gnocchi_cmd.proofs.replay.answer_all.Goals as goal
 

@@ -1,4 +1,4 @@
-use Rattle.std.proofs.Common.{◌≡◌, ◌-◌, ◌^◌, ◌≤◌, List}
+use Rattle.std.proofs.Common.{◌-◌, ◌^◌, ◌≤◌, List}
 use Rattle.series_model.specs.History.{Entry}
 use Rattle.plain_store.specs.Engine.{StandsFor}
 use Rattle.gnocchi_cmd.proofs.Pieces.{SoFar}

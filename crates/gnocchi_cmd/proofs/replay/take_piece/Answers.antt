@@ -1,4 +1,4 @@
-use Rattle.std.proofs.Common.{[], ◌++◌, sym, subst, refl, append-nil}
+use Rattle.std.proofs.Common.{[], refl}
 use Rattle.std.proofs.KnownBytes.{Appends-nil, Consumes-nil, Consumes-kept}
 use Rattle.gnocchi_cmd.proofs.Feeding.{halted_here}
 use Rattle.gnocchi_cmd.proofs.replay.take_piece.Goals as goal
