@@ -1,11 +1,15 @@
-// The file that a store's log is kept in.
+// The file that a store's log is kept in. No contract says what a file holds.
+ghost use Rattle.std.specs.Prelude.{◌≡◌, IfOk};
+
 use gno_disk::FileDisk;
 use gno_num::Failed;
 use std::alloc::Global;
 use std::fs::{self, File, OpenOptions};
 
 /// Makes the folder of a store, where there is none, and the file of its log in it.
-pub fn make(rt: &HostRuntime, alloc: Global, folder: &str) -> Result<FileDisk, Failed> {
+pub fn make(rt: &HostRuntime, alloc: Global, folder: &str) -> Result<FileDisk, Failed>
+    ensures { IfOk result (λ disk. disk.faults ≡ 0) }
+{
     if fs::create_dir_all(rt, folder).is_err() {
         return Err(Failed);
     }
@@ -15,16 +19,15 @@ pub fn make(rt: &HostRuntime, alloc: Global, folder: &str) -> Result<FileDisk, F
 }
 
 /// Opens the file of a store's log.
-pub fn open(rt: &HostRuntime, alloc: Global, folder: &str) -> Result<FileDisk, Failed> {
+pub fn open(rt: &HostRuntime, alloc: Global, folder: &str) -> Result<FileDisk, Failed>
+    ensures { IfOk result (λ disk. disk.faults ≡ 0) }
+{
     open_log(rt, alloc, folder, false)
 }
 
-fn open_log(
-    rt: &HostRuntime,
-    alloc: Global,
-    folder: &str,
-    create: bool,
-) -> Result<FileDisk, Failed> {
+fn open_log(rt: &HostRuntime, alloc: Global, folder: &str, create: bool) -> Result<FileDisk, Failed>
+    ensures { IfOk result (λ disk. disk.faults ≡ 0) }
+{
     let Ok(path) = format!(in alloc; "{folder}/log") else {
         return Err(Failed);
     };
