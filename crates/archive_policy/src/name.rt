@@ -48,6 +48,13 @@ impl Name {
         self.bytes.as_slice()
     }
 
+    /// Whether the two are equal.
+    pub fn equals(&self, other: &Name) -> bool
+        ensures { IsTrue result ↔ (self.now ≡ other.now) }
+    {
+        self.bytes.as_slice() == other.bytes.as_slice()
+    }
+
     /// An equal name.
     pub fn copy(&self) -> Result<Name, Memory>
         ensures { IfOk result (λ copy. copy ≡ self.now) }

@@ -1,5 +1,6 @@
 // Policies.
-ghost use Rattle.std.specs.Prelude.{◌≡◌, ◌≢◌, ◌≤◌, IfOk, IfErr, OnOk, All, length};
+ghost use Rattle.std.specs.Prelude.{◌≡◌, ◌≢◌, ◌≤◌, ◌↔◌, Some, Err, IsTrue, IfOk, IfErr, OnOk, All, length};
+ghost use Rattle.archive_policy.specs.declared.fault.PolicyFault.{PolicyFault};
 ghost use Rattle.std.specs.List.{insert};
 ghost use Rattle.archive_policy.specs.Asked.{definition_of};
 ghost use Rattle.archive_policy.specs.Faults.{IsFirst, first_fault};
@@ -36,7 +37,7 @@ impl Model for Policy {
 
 impl Policy {
     /// The policy that is asked for: definitions by rising granularity, and kinds in table order
-    /// without repeats. Otherwise the first fault, unless there is no memory.
+    /// without repeats. Otherwise the first fault; `Memory` comes only where no other fault holds.
     pub fn make(
         alloc: Global,
         name: Name,
@@ -47,6 +48,8 @@ impl Policy {
         ensures ok { IfOk result (λ policy. policy ≡ policy_of name back_window wanted.now kinds.now) }
         ensures none { OnOk result (first_fault back_window wanted.now kinds.now ≡ None) }
         ensures asked { IfOk result (IsAsked name back_window wanted.now kinds.now) }
+        ensures fault { (fault : PolicyFault) → first_fault back_window wanted.now kinds.now ≡ Some fault
+            → result ≡ Err fault }
         ensures err { IfErr result (λ fault. fault ≢ PolicyFault.Memory
             → first_fault back_window wanted.now kinds.now ≡ Some fault) }
         ensures first { IfErr result (λ fault. fault ≢ PolicyFault.Memory
@@ -103,6 +106,20 @@ impl Policy {
         self.definitions[self.definitions.len() - 1].granularity
     }
 
+    /// Whether the two are equal.
+    pub fn equals(&self, other: &Policy) -> bool
+        ensures { IsTrue result ↔ (self.now ≡ other.now) }
+    {
+        if !self.name.equals(&other.name) {
+            return false;
+        }
+        if self.back_window != other.back_window {
+            return false;
+        }
+        same_definitions(self.definitions.as_slice(), other.definitions.as_slice())
+            && same_kinds(self.kinds.as_slice(), other.kinds.as_slice())
+    }
+
     /// An equal policy.
     pub fn copy(&self) -> Result<Policy, Memory>
         ensures { IfOk result (λ copy. copy ≡ self.now) }
@@ -115,6 +132,20 @@ impl Policy {
             kinds: Vec::from_slice(alloc, self.kinds.as_slice())?,
         })
     }
+}
+
+/// Whether the definitions are equal.
+fn same_definitions(definitions: &[Definition], others: &[Definition]) -> bool
+    ensures { IsTrue result ↔ (definitions.now ≡ others.now) }
+{
+    definitions == others
+}
+
+/// Whether the kinds are equal.
+fn same_kinds(kinds: &[Kind], others: &[Kind]) -> bool
+    ensures { IsTrue result ↔ (kinds.now ≡ others.now) }
+{
+    kinds == others
 }
 
 /// The definitions that are asked for, by rising granularity.

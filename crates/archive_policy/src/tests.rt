@@ -94,7 +94,7 @@ fn faults_of_policies(rt: HostRuntime) -> Result<(), Fail> {
 
 #[test]
 fn definitions_of_policies(rt: HostRuntime) -> Result<(), Fail> {
-    let cases: [(&[Asked], &[(u32, u32)], u32); 4] = [
+    let cases: [(&[Asked], &[(u32, u32)], u32); 5] = [
         (
             &[(60, 10, 0), (3600, 24, 0), (1, 5, 0)],
             &[(1, 5), (60, 10), (3600, 24)],
@@ -102,6 +102,12 @@ fn definitions_of_policies(rt: HostRuntime) -> Result<(), Fail> {
         ),
         (&[(1, 0, 3_600)], &[(1, 3_600)], 1),
         (&[(0, 48, 86_400)], &[(1_800, 48)], 1_800),
+        // the two before as one policy
+        (
+            &[(1, 0, 3_600), (0, 48, 86_400)],
+            &[(1, 3_600), (1_800, 48)],
+            1_800,
+        ),
         // a part of a granularity has no point
         (&[(60, 0, 179)], &[(60, 2)], 60),
     ];
@@ -125,6 +131,8 @@ fn parts_of_policies(rt: HostRuntime) -> Result<(), Fail> {
     let given = [Kind::RateLast, Kind::Count, Kind::Mean, Kind::Count];
     let made = policy(rt.alloc(), 1000, &[(60, 10, 0)], &given)??;
     let again = made.copy()?;
+    assert!(rt; made.equals(&again));
+    assert!(rt; !made.equals(&policy(rt.alloc(), 1000, &[(60, 10, 0)], &[Kind::Mean])??));
     for policy in [&made, &again] {
         assert_eq!(rt; policy.name().bytes(), b"p".as_slice());
         assert_eq!(rt; policy.back_window(), 1000);

@@ -1,10 +1,16 @@
 pub mod AnswerLaws
+pub mod ByKey
 pub mod Latest
+pub mod Loops
 pub mod Members
+pub mod PointLaws
 pub mod Put
 pub mod Rising
-pub mod RowsSoFar
 pub mod SeriesLaws
+pub mod TailLaws
 pub mod Tallies
 pub mod TurnCuts
 pub mod TurnLaws
+pub mod ReplyLaws
+pub mod StoredLaws
+pub mod ValueLaws

@@ -1,8 +1,7 @@
 -- Members of lists, and of lists that are filtered.
 use Rattle.std.proofs.Common.{◌≡◌, ℕ, zero, suc, ◌<◌, ◌⊎◌, List, [], ◌∷◌, map, length, get_or, Option, Some, None, refl, sym, ap, subst, ◌∙◌, inl, inr, arith}
-use Rattle.std.specs.List.{Contains, filter_map, cons_option, range_with_len}
+use Rattle.std.specs.List.{Contains, filter_map, cons_option}
 use Rattle.std.proofs.Math.Logic.{⊎_elim}
-use Rattle.std.proofs.lemmas.List.FromFn.{length-map-range_with_len, get_or-map-range_with_len}
 
 pub Contains-here : {X : Type 0} (x : X) (xs : List X) (m : X) → x ≡ m → Contains (x ∷ xs) m
 Contains-here x xs m same = (0, omega arith, same)
@@ -49,13 +48,14 @@ filter_map-kept {S} {X} h (t ∷ ss) x c = by (filter_map-kept h ss x) (h t) ref
         (λ there. let r = rest there in (r.0, Contains-there t ss r.0 r.1, r.2))
         (Contains-cases y (filter_map h ss) x c)
 
--- ---- a list made from a function of the index
+-- ---- a list that is mapped
 
-pub made_has : (f : ℕ → ℕ) (n k : ℕ) → k < n → Contains (map f (range_with_len 0 n)) (f k)
-made_has f n k below =
-    (k, omega (arith, below, length-map-range_with_len f 0 n), get_or-map-range_with_len f 0 n k k (f k) below (omega arith))
+pub map_has : {S X : Type 0} (f : S → X) (ss : List S) (s : S) → Contains ss s → Contains (map f ss) (f s)
+map_has f [] s c = absurd (Contains-none s c)
+map_has f (t ∷ ss) s c =
+    ⊎_elim (λ same. Contains-here (f t) (map f ss) (f s) (ap f same)) (λ there. Contains-there (f t) (map f ss) (f s) (map_has f ss s there)) (Contains-cases t ss s c)
 
-pub made_from : (f : ℕ → ℕ) (n s : ℕ) → Contains (map f (range_with_len 0 n)) s → (k : ℕ) × (k < n) × (f k ≡ s)
-made_from f n s c =
-    let below : c.0 < n = omega (arith, c.1, length-map-range_with_len f 0 n) in
-    (c.0, below, sym (get_or-map-range_with_len f 0 n c.0 c.0 s below (omega arith)) ∙ c.2)
+pub map_from : {S X : Type 0} (f : S → X) (ss : List S) (x : X) → Contains (map f ss) x → (s : S) × Contains ss s × (f s ≡ x)
+map_from f [] x c = absurd (Contains-none x c)
+map_from f (t ∷ ss) x c =
+    ⊎_elim (λ same. (t, Contains-here t ss t refl, same)) (λ there. let r = map_from f ss x there in (r.0, Contains-there t ss r.0 r.1, r.2)) (Contains-cases (f t) (map f ss) x c)

@@ -200,29 +200,3 @@ value_member (x ∷ series) m found =
         let mine : given x m.at ≡ Some x.value = ap (given x) (sym same) ∙ given_own x in
         Contains-here x series m (same_measure x m same (same_Some x.value m.value (sym mine ∙ got)))
     own rest same (Some v) is got = Contains-there x series m (rest (is ∙ got))
-
--- ---- two lists of the same members that rise are one
-
-pub same_rising : (xs ys : List Measure) → Rises (times xs) → Rises (times ys) → ((m : Measure) → Contains xs m → Contains ys m) → ((m : Measure) → Contains ys m → Contains xs m) → xs ≡ ys
-same_rising [] [] h k to from = refl
-same_rising [] (y ∷ ys) h k to from = absurd (Contains-none y (from y (Contains-here y ys y refl)))
-same_rising (x ∷ xs) [] h k to from = absurd (Contains-none x (to x (Contains-here x xs x refl)))
-same_rising (x ∷ xs) (y ∷ ys) h k to from =
-    let heads : x ≡ y =
-    ⊎_elim
-    (λ same. sym same)
-    (λ later. ⊎_elim
-    (λ same. same)
-    (λ above. absurd (omega (arith, Above-member y.at ys x k.0 later, Above-member x.at xs y h.0 above)))
-    (Contains-cases x xs y (from y (Contains-here y ys y refl))))
-    (Contains-cases y ys x (to x (Contains-here x xs x refl))) in
-    let rest : xs ≡ ys = same_rising xs ys h.1 k.1
-    (λ m c. ⊎_elim
-    (λ same. absurd (omega (arith, Above-member x.at xs m h.0 c, ap (λ (z : Measure). z.at) heads, ap (λ (z : Measure). z.at) same)))
-    (λ there. there)
-    (Contains-cases y ys m (to m (Contains-there x xs m c))))
-    (λ m c. ⊎_elim
-    (λ same. absurd (omega (arith, Above-member y.at ys m k.0 c, ap (λ (z : Measure). z.at) heads, ap (λ (z : Measure). z.at) same)))
-    (λ there. there)
-    (Contains-cases x xs m (from m (Contains-there y ys m c)))) in
-    ap (λ z. z ∷ xs) heads ∙ ap (λ zs. y ∷ zs) rest

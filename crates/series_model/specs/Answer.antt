@@ -1,7 +1,6 @@
 -- What a query is answered with.
-use Rattle.std.specs.Prelude.{◌≡◌, ◌↔◌, ℕ, ◌+◌, ◌-◌, ◌*◌, ◌/◌, ◌%◌, ◌≤◌, List, [], map, Option, Some, None, IfSome}
-use Rattle.std.specs.Option.{option_map}
-use Rattle.std.specs.List.{filter_map, range_with_len, Contains}
+use Rattle.std.specs.Prelude.{◌≡◌, ◌↔◌, ℕ, ◌-◌, ◌*◌, ◌%◌, ◌≤◌, List, [], map, Option, Some, None, IfSome}
+use Rattle.std.specs.List.{Contains}
 use Rattle.std.specs.List.Sorted.{IsStrictlyIncreasing}
 use Rattle.gno_num.specs.Floor.{floor_of}
 use Rattle.archive_policy.specs.declared.kind.Kind.{Kind}
@@ -9,28 +8,24 @@ use Rattle.archive_policy.specs.declared.definition.Definition.{Definition}
 use Rattle.series_model.specs.declared.answer.Row.{Row}
 use Rattle.series_model.specs.declared.measure.Measure.{Measure}
 use Rattle.series_model.specs.Accepted.{latest}
+use Rattle.series_model.specs.declared.point.Point.{Point}
 use Rattle.series_model.specs.Series.{series_of_measures}
 use Rattle.series_model.specs.Bucket.{value_at}
+use Rattle.series_model.specs.Points.{points_of, points_from}
 
 -- the start of the oldest bucket that is kept, by the greatest accepted timestamp
 abbrev pub oldest_point_of : ℕ → Definition → ℕ
 oldest_point_of last d = floor_of last d.granularity - (d.points - 1) * d.granularity
 
--- the starts of the buckets from the oldest point to the greatest accepted timestamp
-abbrev pub kept_starts : ℕ → Definition → List ℕ
-kept_starts last d =
-    let oldest = oldest_point_of last d in
-    map (λ k. oldest + k * d.granularity) (range_with_len 0 ((last - oldest) / d.granularity + 1))
+-- the row of a point
+abbrev pub row_of : ℕ → Point → Row
+row_of granularity p = record { at = p.at; granularity = granularity; value = p.value }
 
--- the row of a bucket, where it has a value
-abbrev pub row_at : Kind → ℕ → List Measure → ℕ → Option Row
-row_at kind granularity series start =
-    option_map (λ value. record { at = start; granularity = granularity; value = value }) (value_at kind granularity series start)
-
--- the rows of the kept buckets that have a value, by time; none where nothing was accepted
+-- the rows of the points from the oldest one on, by time; none where nothing was accepted
 abbrev pub rows_until : Kind → Definition → List Measure → Option ℕ → List Row
 rows_until kind d series None = []
-rows_until kind d series (Some last) = filter_map (row_at kind d.granularity series) (kept_starts last d)
+rows_until kind d series (Some last) =
+    map (row_of d.granularity) (points_from (oldest_point_of last d) (points_of kind d.granularity series))
 
 -- what a query of one kind and one granularity is answered with, by all measures that were accepted
 abbrev pub answer_of : Kind → Definition → List Measure → List Row

@@ -1,5 +1,5 @@
 -- What more entries do to what is kept of a history.
-use Rattle.std.specs.Prelude.{◌≡◌, ℕ, Bool, true, false, if◌then◌else◌, List, [], ◌∷◌, ◌++◌, Option, Some, None, refl}
+use Rattle.std.specs.Prelude.{◌≡◌, ℕ, Bool, true, false, if◌then◌else◌, List, [], ◌∷◌, ◌++◌, Option, refl}
 use Rattle.std.proofs.Common.{sym, ap, ◌∙◌, append-nil, append_assoc}
 use Rattle.series_model.specs.declared.measure.Measure.{Measure}
 use Rattle.series_model.specs.History.{Attempt, Entry, Post, Done, Look, Fault, Reopened}

@@ -2,9 +2,14 @@ pub mod Accepted
 pub mod AcceptedLaws
 pub mod Answer
 pub mod Bucket
+pub mod BucketLaws
 pub mod History
 pub mod HistoryLaws
 pub mod Kept
 pub mod KeptLaws
+pub mod Points
+pub mod Query
 pub mod Series
+pub mod Stored
+pub mod Tail
 pub mod Turns

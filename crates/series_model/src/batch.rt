@@ -2,6 +2,7 @@
 ghost use Rattle.std.specs.Prelude.{◌≡◌, ◌<◌, ◌≤◌, length, IfOk, IfErr};
 
 use crate::Measure;
+use gno_num::Memory;
 use std::marker::Model;
 
 const MOST: usize = 50_000;
@@ -42,6 +43,14 @@ impl Batch {
                 given: measures.len() as u64,
             })
         }
+    }
+
+    /// An equal batch.
+    pub fn copy(&self) -> Result<Batch, Memory>
+        ensures { IfOk result (λ copy. copy ≡ self.now) }
+    {
+        let measures = Vec::from_slice(*self.measures.allocator(), self.measures.as_slice())?;
+        Ok(Batch { measures })
     }
 
     /// The measures, in order.

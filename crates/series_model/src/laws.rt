@@ -1,10 +1,18 @@
 // What the definitions amount to, in the words of the subject.
-ghost use Rattle.std.specs.Prelude.{◌≡◌, ◌<◌, ◌≤◌, ℕ, List, [], ◌∷◌, ◌++◌, map, length, take, drop, filter, All, Any, MatchOption};
+ghost use Rattle.std.specs.Prelude.{◌≡◌, ◌↔◌, ◌<◌, ◌≤◌, ◌≤ℤ◌, ℕ, ℤ, List, [], ◌∷◌, ◌++◌, map, length, take, drop, filter, All, Any, Contains, MatchOption};
 ghost use Rattle.archive_policy.specs.declared.kind.Kind.{Kind};
 ghost use Rattle.archive_policy.specs.declared.definition.Definition.{Definition};
 ghost use Rattle.series_model.specs.declared.measure.Measure.{Measure};
 ghost use Rattle.series_model.specs.Accepted.{accepted_of, is_within, latest, window};
 ghost use Rattle.series_model.specs.Answer.{IsAnswer, answer_of};
+ghost use Rattle.series_model.specs.declared.answer.Row.{Row};
+ghost use Rattle.series_model.specs.declared.point.Point.{Point};
+ghost use Rattle.series_model.specs.declared.point.Split.{Split};
+ghost use Rattle.series_model.specs.Bucket.{changes, distinct_count, greatest, least};
+ghost use Rattle.series_model.specs.BucketLaws.{IsChange, IsSetOf};
+ghost use Rattle.series_model.specs.Points.{ArePoints, IsPoint, points_from, points_of};
+ghost use Rattle.series_model.specs.Stored.{AreStoredSplits, stored_of};
+ghost use Rattle.series_model.specs.Tail.{members_of, tail_of};
 ghost use Rattle.series_model.specs.History.{Entry, Done, posts_of, processed_batches, pending_numbers, turn_ends, turns_of};
 ghost use Rattle.series_model.specs.Series.{IsSeries, series_of_measures};
 ghost use Rattle.series_model.specs.Turns.{AreNumbered, last_number, turn_end, waiting_posts};
@@ -37,6 +45,59 @@ pub fn one_series()
 pub fn rows_are_exact()
     ensures { (kind : Kind) (d : Definition) (accepted : List Measure)
         → IsAnswer kind d accepted (answer_of kind d accepted) }
+{}
+
+/// The points of a series are those of the buckets that have a value, by time, and there is one such
+/// list.
+pub fn points_are_exact()
+    ensures exact { (kind : Kind) (granularity : ℕ) (measures : List Measure)
+        → ArePoints (IsPoint kind granularity (series_of_measures measures))
+        (points_of kind granularity (series_of_measures measures)) }
+    ensures one { (kind : Kind) (granularity : ℕ) (series : List Measure) (xs ys : List Point)
+        → ArePoints (IsPoint kind granularity series) xs → ArePoints (IsPoint kind granularity series) ys
+        → xs ≡ ys }
+{}
+
+/// Stored splits have exactly the points of their stretches from the oldest key on, and there is one
+/// such list.
+pub fn splits_are_exact()
+    ensures exact { (kind : Kind) (d : Definition) (accepted : List Measure)
+        → AreStoredSplits kind d accepted (stored_of kind d accepted) }
+    ensures one { (kind : Kind) (d : Definition) (accepted : List Measure) (xs ys : List Split)
+        → AreStoredSplits kind d accepted xs → AreStoredSplits kind d accepted ys → xs ≡ ys }
+{}
+
+/// An answer is unique.
+pub fn one_answer()
+    ensures { (kind : Kind) (d : Definition) (accepted : List Measure) (xs ys : List Row)
+        → IsAnswer kind d accepted xs → IsAnswer kind d accepted ys → xs ≡ ys }
+{}
+
+/// The tail of a series with its anchor has every later point: from a time on that isn't before the
+/// tail's, its points are those of the whole series.
+pub fn tail_has_later_points()
+    ensures { (kind : Kind) (granularity cut from : ℕ) (accepted : List Measure) → cut ≤ from
+        → points_from from (points_of kind granularity (members_of (tail_of cut accepted)))
+        ≡ points_from from (points_of kind granularity (series_of_measures accepted)) }
+{}
+
+/// A change is that of a member with an earlier one: its value less that of the greatest earlier
+/// member.
+pub fn changes_are_exact()
+    ensures { (measures : List Measure) (change : Measure)
+        → Contains (changes (series_of_measures measures)) change
+        ↔ IsChange (series_of_measures measures) change }
+{}
+
+/// The least and the greatest value are values and bounds, and distinct values are counted as the
+/// members of a list without repeats that has the same values.
+pub fn values_are_summed_up()
+    ensures least { (v : ℤ) (values : List ℤ)
+        → Contains (v ∷ values) (least (v ∷ values)) × All (λ w. least (v ∷ values) ≤ℤ w) (v ∷ values) }
+    ensures greatest { (v : ℤ) (values : List ℤ)
+        → Contains (v ∷ values) (greatest (v ∷ values)) × All (λ w. w ≤ℤ greatest (v ∷ values)) (v ∷ values) }
+    ensures distinct { (values : List ℤ) → (set : List ℤ) × IsSetOf values set
+        × (length set ≡ distinct_count values) }
 {}
 
 /// A turn takes 64 of the posts that wait, and the last one those that are left.

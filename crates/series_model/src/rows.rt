@@ -1,11 +1,11 @@
 // What a query is answered with.
-ghost use Rattle.std.specs.Prelude.{◌≡◌, ◌<◌, ◌≤◌, ◌*◌, ◌^◌, Some, IfOk};
-ghost use Rattle.series_model.specs.Answer.{IsAnswer, answer_of, oldest_point_of, row_at, rows_until};
+ghost use Rattle.std.specs.Prelude.{◌≡◌, ◌≤◌, Some, IfOk};
+ghost use Rattle.series_model.specs.Answer.{IsAnswer, answer_of, oldest_point_of, row_of, rows_until};
 
-use crate::bucket::bucket_value;
+use crate::points::points_of;
 use crate::series::series_of;
 use crate::window::latest_of;
-use crate::{Answer, Measure, Row};
+use crate::{Answer, Measure, Point, Row};
 use archive_policy::{Definition, Kind};
 use gno_num::{Memory, Span, Stamp};
 use std::alloc::Global;
@@ -41,46 +41,33 @@ fn rows_of(
     ensures { IfOk result (λ answer. answer ≡ rows_until kind definition.now series.now (Some last)) }
 {
     let oldest = oldest_point(last, definition);
-    let granularity = definition.granularity.nanos();
+    let points = points_of(alloc, kind, definition.granularity, series)?;
     let mut answer = Answer::new(alloc);
-    for k in 0..(last.nanos() - oldest) / granularity + 1 {
-        let start = oldest + k * granularity;
-        let row = row_of(alloc, kind, definition.granularity, series, start)?;
-        if let Some(row) = row {
-            answer.add(row)?;
+    for p in points.as_slice() {
+        if oldest <= p.at.nanos() {
+            answer.add(row_of(definition.granularity, p))?;
         }
     }
     Ok(answer)
 }
 
+/// The row of a point.
+pub fn row_of(granularity: Span, p: &Point) -> Row
+    ensures { result ≡ row_of granularity p.now }
+{
+    Row {
+        at: p.at,
+        granularity,
+        value: p.value,
+    }
+}
+
 /// The start of the oldest bucket that is kept, in nanoseconds.
-fn oldest_point(last: Stamp, definition: &Definition) -> u64
+pub fn oldest_point(last: Stamp, definition: &Definition) -> u64
     ensures value { result ≡ oldest_point_of last definition.now }
     ensures early { result ≤ last }
 {
     let granularity = definition.granularity.nanos();
     let back = u64::from(definition.points.saturating_sub(1)).saturating_mul(granularity);
     (last.nanos() / granularity * granularity).saturating_sub(back)
-}
-
-/// The row of the bucket that begins at this time, where it has a value.
-fn row_of(
-    alloc: Global,
-    kind: Kind,
-    granularity: Span,
-    series: &[Measure],
-    start: u64,
-) -> Result<Option<Row>, Memory>
-    requires { start < 9 * 10 ^ 18 }
-    ensures { IfOk result (λ row. row ≡ row_at kind granularity series.now start) }
-{
-    let at = Stamp::of_nanos(start).unwrap();
-    match bucket_value(alloc, kind, granularity, series, start)? {
-        None => Ok(None),
-        Some(value) => Ok(Some(Row {
-            at,
-            granularity,
-            value,
-        })),
-    }
 }

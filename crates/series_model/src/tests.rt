@@ -1,6 +1,9 @@
 // Worked examples of the rules of a series. Times are in seconds, and values are whole.
-use crate::{Answer, Batch, Measure, Row, TooMany, accepted, answer_from, series_of};
-use archive_policy::{Definition, Kind};
+use crate::{
+    Answer, Batch, Measure, Query, Row, TooMany, accepted, accepted_within, answer_from, answer_to,
+    series_of, stored,
+};
+use archive_policy::{Definition, Kind, Name, Policy, Wanted};
 use gno_num::{Frac, Span, Stamp, Value};
 use std::alloc::Global;
 use std::test::Fail;
@@ -37,7 +40,7 @@ fn accepted_by(
     for given in posted {
         batches.push(Batch::make(measures(alloc, given)?)?)?;
     }
-    Ok(accepted(alloc, span(largest)?, back_window, batches.as_slice())?)
+    Ok(accepted_within(alloc, span(largest)?, back_window, batches.as_slice())?)
 }
 
 #[test]
@@ -221,5 +224,103 @@ fn limit_of_a_batch(rt: HostRuntime) -> Result<(), Fail> {
     assert_eq!(rt; full.measures().len(), 50_000);
     let over = Batch::make(vec![in rt.alloc(); one; 50_001]?);
     assert!(rt; matches!(over, Err(TooMany { given: 50_001 })));
+    Ok(())
+}
+
+/// 10 points of a minute and 12 of five minutes, with no back window.
+fn policy(alloc: Global) -> Result<Policy, Fail> {
+    let name = Name::of(alloc, b"p")?;
+    let wanted = [wanted(60, 10)?, wanted(300, 12)?];
+    Ok(Policy::make(alloc, name, 0, &wanted, &[Kind::Mean, Kind::Count])?)
+}
+
+fn wanted(granularity: u32, points: u64) -> Result<Wanted, Fail> {
+    Ok(Wanted {
+        granularity: Some(span(granularity)?),
+        points: Some(points),
+        timespan: None,
+    })
+}
+
+/// The keys of the splits of a minute, in seconds, after one batch.
+fn keys(alloc: Global, given: &[(u32, i32)]) -> Result<Vec<u64>, Fail> {
+    let mut batches = Vec::new(alloc);
+    batches.push(Batch::make(measures(alloc, given)?)?.copy()?)?;
+    let policy = policy(alloc)?;
+    if policy.definitions().is_empty() {
+        return Err("no definition")?;
+    }
+    let splits = stored(alloc, &policy, batches.as_slice(), 0, Kind::Mean)?;
+    let mut keys = Vec::new(alloc);
+    for split in splits.as_slice() {
+        let split = split.copy(alloc)?;
+        if split.points().is_empty() {
+            return Err("a split without points")?;
+        }
+        keys.push(split.key.nanos() / NANOS)?;
+    }
+    Ok(keys)
+}
+
+// The split that holds the oldest point to keep is stored whole; the one before it isn't.
+#[test]
+fn splits_by_key(rt: HostRuntime) -> Result<(), Fail> {
+    let both = keys(rt.alloc(), &[(215_999, 1), (216_000, 2)])?;
+    assert_eq!(rt; both.as_slice(), [0, 216_000].as_slice());
+    let later = keys(rt.alloc(), &[(215_999, 1), (216_000, 2), (216_540, 3)])?;
+    assert_eq!(rt; later.as_slice(), [216_000].as_slice());
+    Ok(())
+}
+
+// The time and the granularity, in seconds, of each row that a query from `start` until `stop` has.
+fn asked(
+    alloc: Global,
+    start: Option<u32>,
+    stop: Option<u32>,
+    granularity: Option<u32>,
+) -> Result<Vec<(u64, u64)>, Fail> {
+    let query = Query {
+        start: stamp(start)?,
+        stop: stamp(stop)?,
+        kind: Some(Kind::Mean),
+        granularity: match granularity {
+            None => None,
+            Some(seconds) => Some(span(seconds)?),
+        },
+    };
+    let policy = policy(alloc)?;
+    let mut batches = Vec::new(alloc);
+    batches.push(Batch::make(measures(alloc, &[(100, 10), (110, 20), (310, 3)])?)?)?;
+    let measures = accepted(alloc, &policy, batches.as_slice())?;
+    let answer = answer_to(alloc, &policy, &query, Kind::Mean, measures.as_slice())?;
+    let mut rows = Vec::new(alloc);
+    for row in answer.rows() {
+        rows.push((row.at.nanos() / NANOS, row.granularity.nanos() / NANOS))?;
+    }
+    Ok(rows)
+}
+
+fn stamp(seconds: Option<u32>) -> Result<Option<Stamp>, Fail> {
+    match seconds {
+        None => Ok(None),
+        Some(seconds) => Ok(Some(Stamp::of_nanos(u64::from(seconds) * NANOS).ok_or("stamp")?)),
+    }
+}
+
+// Each definition that is asked for, the coarsest first, from the start's bucket to before the stop.
+#[test]
+fn queries_within_bounds(rt: HostRuntime) -> Result<(), Fail> {
+    let alloc = rt.alloc();
+    let all = asked(alloc, None, None, None)?;
+    assert_eq!(rt;
+        all.as_slice(),
+        [(0, 300), (300, 300), (60, 60), (300, 60)].as_slice()
+    );
+    let one = asked(alloc, None, None, Some(60))?;
+    assert_eq!(rt; one.as_slice(), [(60, 60), (300, 60)].as_slice());
+    let from = asked(alloc, Some(119), Some(300), None)?;
+    assert_eq!(rt; from.as_slice(), [(0, 300), (60, 60)].as_slice());
+    let none = asked(alloc, Some(0), Some(0), None)?;
+    assert!(rt; none.is_empty());
     Ok(())
 }

@@ -1,17 +1,26 @@
 // Which measures are accepted.
 ghost use Rattle.std.specs.Prelude.{◌≡◌, IfOk};
 ghost use Rattle.series_model.specs.Accepted.{accepted_of, later, latest, window};
+ghost use Rattle.series_model.specs.Tail.{accepted_under};
 
 use crate::turn::Turns;
 use crate::{Batch, Measure};
+use archive_policy::Policy;
 use gno_num::{Memory, Span, Stamp};
 use std::alloc::Global;
 
-/// The measures that are accepted of these batches, in the order of acceptance. Each batch takes
+/// The measures that a policy accepts of these batches, in the order of acceptance. Each batch takes
 /// its turn by itself, and the window that stands as its turn begins judges all its measures. The
-/// window is `back_window` of the largest granularity before the bucket of the greatest accepted
-/// timestamp.
-pub fn accepted(
+/// window is the policy's `back_window` of its largest granularity before the bucket of the greatest
+/// accepted timestamp.
+pub fn accepted(alloc: Global, policy: &Policy, batches: &[Batch]) -> Result<Vec<Measure>, Memory>
+    ensures { IfOk result (λ measures. measures.items ≡ accepted_under policy.now batches.now) }
+{
+    accepted_within(alloc, policy.largest(), policy.back_window(), batches)
+}
+
+/// The measures that are accepted of these batches, by a largest granularity and a back window.
+pub fn accepted_within(
     alloc: Global,
     largest: Span,
     back_window: u16,

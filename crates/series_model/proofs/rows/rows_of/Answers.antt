@@ -1,22 +1,23 @@
-use Rattle.std.proofs.Common.{◌≡◌, ℕ, ◌+◌, ◌*◌, ◌++◌, Option, sym, ap, ◌∙◌, append-nil}
-use Rattle.std.specs.Option.{option_to_list}
-use Rattle.series_model.specs.declared.answer.Row.{Row}
-use Rattle.series_model.specs.Answer.{row_at}
-use Rattle.series_model.proofs.RowsSoFar.{filter_map-more}
-use Rattle.series_model.proofs.rows.rows_of.Goals.{in-Some+in_ok-add, in_default}
+use Rattle.std.proofs.Common.{leb, map, take, [], ◌∷◌, ◌++◌, sym, ap, ◌∙◌, arith}
+use Rattle.std.specs.List.{filter}
+use Rattle.std.proofs.lemmas.Bool.{le-leb, lt-leb}
+use Rattle.series_model.specs.Answer.{row_of}
+use Rattle.series_model.proofs.Loops.{map_filter-in, filter-out}
+use Rattle.series_model.proofs.rows.rows_of.Goals.{then-oldest-nanos+in_ok-add, else-oldest-nanos}
 use Rattle.series_model.proofs.rows.rows_of.Goals as goal
 
-pub loop-k-preserved : goal.loop-k-preserved
-loop-k-preserved c =
-    let oldest = c.oldest_point-oldest.result in
+pub loop-p-preserved : goal.loop-p-preserved
+loop-p-preserved c =
     let g = c.args.definition.now.granularity in
-    let h : ℕ → Option Row = row_at c.args.kind g c.args.series.now in
-    let o : Option Row = c.in_ok-row.row in
-    let found : o ≡ h (oldest + c.loop-k.k * g) =
-    c.in_ok-row.ensures ∙ ap (λ n. h (oldest + c.loop-k.k * n)) c.nanos-granularity.ensures.value in
-    let added : c.match-row.answer ≡ c.loop-k.answer ++ option_to_list o =
-    elim c.match-row.branch [
-      | in-Some+in_ok-add w ↦ w.answer-is ∙ w.in_ok-add.ensures.ok ∙ ap (λ p. c.loop-k.answer ++ option_to_list p) (sym w.in-Some.is)
-      | in_default w ↦ w.answer-is ∙ sym (append-nil c.loop-k.answer) ∙ ap (λ p. c.loop-k.answer ++ option_to_list p) (sym w.in_default.is)
-    ] in
-    filter_map-more h (λ k. oldest + k * g) c.loop-k.k c.loop-k.answer c.match-row.answer o c.loop-k.invariant added found
+    let oldest = c.oldest_point-oldest.result in
+    let items = c.as_slice-p-items.result.now in
+    let i = c.loop-p.p-index in
+    elim c.if-oldest-nanos.branch [
+      | then-oldest-nanos+in_ok-add w ↦
+          w.answer-is ∙ w.in_ok-add.ensures.ok ∙ ap (λ l. l ++ w.row_of.result ∷ []) c.loop-p.invariant
+          ∙ ap (λ r. map (row_of g) (filter (λ p. leb oldest p.at) (take i items)) ++ r ∷ []) w.row_of.ensures
+          ∙ sym (map_filter-in (row_of g) (λ p. leb oldest p.at) items i c.p-item.result (omega arith) c.p-item.is (le-leb oldest c.p-item.result.at (omega arith)))
+      | else-oldest-nanos w ↦
+          w.answer-is ∙ c.loop-p.invariant
+          ∙ ap (map (row_of g)) (sym (filter-out (λ p. leb oldest p.at) items i c.p-item.result (omega arith) c.p-item.is (lt-leb oldest c.p-item.result.at (omega arith))))
+    ]

@@ -1,6 +1,6 @@
 use Rattle.std.proofs.Common.{◌≡◌, drop}
 use Rattle.series_model.specs.Accepted.{accepted_of, accepted_onto}
-use Rattle.series_model.proofs.window.accepted.Given as goal
+use Rattle.series_model.proofs.window.accepted_within.Given as goal
 
 -- the turns so far and those of what is left are all turns
 abbrev pub invariant-loop-batch : goal.invariant-loop-batch
