@@ -145,7 +145,7 @@ last_value-put_other (x ∷ series) m at apart =
     (λ same. behind m series at apart ∙ sym (behind x series at (λ e. apart (same ∙ e))))
     (λ _. ap (λ o. first_there o (given x at)) (last_value-put_other series m at apart))
 
-last_value-fold : (measures series : List Measure) (at : ℕ) → Rises (times series) → last_value (fold put series measures) at ≡ first_there (last_value measures at) (last_value series at)
+pub last_value-fold : (measures series : List Measure) (at : ℕ) → Rises (times series) → last_value (fold put series measures) at ≡ first_there (last_value measures at) (last_value series at)
 last_value-fold [] series at h = refl
 last_value-fold (m ∷ measures) series at h =
     last_value-fold measures (put series m) at (Rises-put series m h)

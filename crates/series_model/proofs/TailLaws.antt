@@ -14,7 +14,7 @@ use Rattle.series_model.specs.Accepted.{later, latest}
 use Rattle.series_model.specs.Bucket.{bucket, changes, changes_after, members_for, value_at, value_of}
 use Rattle.series_model.specs.Points.{points_of, points_from, IsPoint, ArePoints}
 use Rattle.series_model.specs.Series.{put, series_of_measures}
-use Rattle.series_model.specs.Tail.{last_onto, members_from, members_before}
+use Rattle.series_model.specs.Tail.{last_onto, last_time, members_from, members_before}
 use Rattle.series_model.proofs.ByKey.{filter-keep, filter-skip, filter_within, Rises-filter, same_values}
 use Rattle.series_model.proofs.PointLaws.{points_exact, points_one, points_filtered, points_as}
 use Rattle.series_model.proofs.Rising.{Above, Rises, times, Rises-fold, last_value-series}
@@ -46,10 +46,10 @@ before-none c at (m ∷ series) le h = before-skip c m series (omega arith) ∙ 
 
 -- ---- one measure more
 
-put-lower : (x : Measure) (series : List Measure) (m : Measure) → m.at < x.at → put (x ∷ series) m ≡ m ∷ x ∷ series
+pub put-lower : (x : Measure) (series : List Measure) (m : Measure) → m.at < x.at → put (x ∷ series) m ≡ m ∷ x ∷ series
 put-lower x series m less = ap (λ b. cond b (m ∷ x ∷ series) (cond (eqb m.at x.at) (m ∷ series) (x ∷ put series m))) (lt-ltb m.at x.at less)
 
-put-same : (x : Measure) (series : List Measure) (m : Measure) → m.at ≡ x.at → put (x ∷ series) m ≡ m ∷ series
+pub put-same : (x : Measure) (series : List Measure) (m : Measure) → m.at ≡ x.at → put (x ∷ series) m ≡ m ∷ series
 put-same x series m same =
     ap (λ b. cond b (m ∷ x ∷ series) (cond (eqb m.at x.at) (m ∷ series) (x ∷ put series m))) (le-ltb m.at x.at (omega (arith, same)))
     ∙ ap (λ b. cond b (m ∷ series) (x ∷ put series m)) (eq-eqb m.at x.at same)
@@ -122,12 +122,12 @@ series-own xs rising =
 
 -- ---- the greatest timestamp
 
--- the time of the last of these, where there is one
-abbrev pub last_time : List Measure → Option ℕ
-last_time series = option_map (λ (m : Measure). m.at) (last_onto None series)
+pub later_le : (at : ℕ) (o : Option ℕ) → at ≤ later at o
+later_le at None = omega arith
+later_le at (Some other) = omega arith
 
 -- the later of what stood before and these
-abbrev join : Option ℕ → Option ℕ → Option ℕ
+abbrev pub join : Option ℕ → Option ℕ → Option ℕ
 join None other = other
 join (Some at) other = Some (later at other)
 
@@ -258,12 +258,11 @@ bucket_from : (g c s : ℕ) (series : List Measure) → c ≤ s → bucket g s (
 bucket_from g c s series le = filter_within (inside g s) (λ (m : Measure). leb c m.at) (inside_from g c s le) series
 
 -- an anchor is before the time
-pub Below : ℕ → Option Measure → Type 0
+abbrev pub Below : ℕ → Option Measure → Type 0
 Below c None = Unit {0}
 Below c (Some m) = m.at < c
 
 pub below_last : (c : ℕ) (o : Option Measure) (series : List Measure) → Below c o → Below c (last_onto o (members_before c series))
-unfolding Below
 below_last c o [] b = b
 below_last c o (m ∷ series) b =
     ⊎_elim
@@ -272,7 +271,6 @@ below_last c o (m ∷ series) b =
     (cases_lt m.at c)
 
 from-anchored : (c : ℕ) (o : Option Measure) (series : List Measure) → Below c o → members_from c (anchored o series) ≡ members_from c series
-unfolding Below
 from-anchored c None series b = refl
 from-anchored c (Some m) series b = from-skip c m series b
 
@@ -281,7 +279,6 @@ abbrev pub tail_members : ℕ → List Measure → List Measure
 tail_members c series = anchored (last_onto None (members_before c series)) (members_from c series)
 
 bucket_tail : (kind : Kind) (g c s : ℕ) (series : List Measure) → c ≤ s → Rises (times series) → bucket g s (members_for kind series) ≡ bucket g s (members_for kind (tail_members c series))
-unfolding Below
 bucket_tail kind g c s series le h = by (is_rate kind)
   where
     by : (rate : Bool) → bucket g s (cond rate (changes series) series) ≡ bucket g s (cond rate (changes (tail_members c series)) (tail_members c series))
@@ -310,13 +307,11 @@ Above-from at c (m ∷ series) less =
     (cases_lt m.at c)
 
 pub Rises-anchored : (c : ℕ) (o : Option Measure) (series : List Measure) → Below c o → Rises (times series) → Rises (times (anchored o (members_from c series)))
-unfolding Below
 Rises-anchored c None series b h = Rises-filter (λ (m : Measure). m.at) (λ (m : Measure). leb c m.at) series h
 Rises-anchored c (Some a) series b h =
     (Above-from a.at c series b, Rises-filter (λ (m : Measure). m.at) (λ (m : Measure). leb c m.at) series h)
 
 pub Rises-tail : (c : ℕ) (series : List Measure) → Rises (times series) → Rises (times (tail_members c series))
-unfolding Below
 Rises-tail c series h = Rises-anchored c (last_onto None (members_before c series)) series (below_last c None series tt) h
 
 -- ---- the points of a tail

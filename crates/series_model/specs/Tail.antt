@@ -1,6 +1,6 @@
 -- What is kept of a series: its members from some time on, and the one before them.
 use Rattle.std.specs.Prelude.{ℕ, nat_le, nat_lt, List, [], ◌∷◌, ◌++◌, Option, Some, None}
-use Rattle.std.specs.Option.{option_to_list, unwrap_or}
+use Rattle.std.specs.Option.{option_map, option_to_list, unwrap_or}
 use Rattle.std.specs.List.{filter}
 use Rattle.archive_policy.specs.Policies.{ArchivePolicy, largest_of}
 use Rattle.series_model.specs.declared.measure.Measure.{Measure}
@@ -36,6 +36,10 @@ accepted_under policy batches = accepted_after policy [] batches
 abbrev pub last_onto : Option Measure → List Measure → Option Measure
 last_onto before [] = before
 last_onto before (m ∷ measures) = last_onto (Some m) measures
+
+-- the time of the last of these, where there is one
+abbrev pub last_time : List Measure → Option ℕ
+last_time measures = option_map (λ m. m.at) (last_onto None measures)
 
 -- the members that aren't before a time
 abbrev pub members_from : ℕ → List Measure → List Measure

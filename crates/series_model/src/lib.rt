@@ -39,4 +39,4 @@ pub use rows::answer_from;
 pub use series::series_of;
 pub use splits::{stored, stored_from};
 pub use ticket::Ticket;
-pub use window::{accepted, accepted_within};
+pub use window::{accepted, accepted_within, window_of};

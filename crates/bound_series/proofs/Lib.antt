@@ -1,0 +1,4 @@
+pub mod Earliest
+pub mod Merging
+pub mod Places
+pub mod Scratch
