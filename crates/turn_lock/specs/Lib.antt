@@ -1,0 +1,5 @@
+pub mod History
+pub mod Knowledge
+pub mod Lends
+pub mod Rules
+pub mod Totals
