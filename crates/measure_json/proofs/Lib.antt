@@ -1,0 +1,11 @@
+pub mod AnswerLemmas
+pub mod BatchLemmas
+pub mod CompleteLemmas
+pub mod IdLemmas
+pub mod ItemLemmas
+pub mod NumberLemmas
+pub mod PlainLemmas
+pub mod SoundLemmas
+pub mod StepLemmas
+pub mod StringLemmas
+pub mod TextLemmas

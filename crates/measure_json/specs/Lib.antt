@@ -1,1 +1,12 @@
 pub mod Answer
+pub mod Batch
+pub mod Characters
+pub mod Fault
+pub mod Grammar
+pub mod Items
+pub mod Marks
+pub mod Measures
+pub mod Number
+pub mod Plain
+pub mod Spelled
+pub mod Text
