@@ -5,8 +5,8 @@ use Rattle.std.proofs.lemmas.List.{take-take, take_at, drop_at, take-append-le, 
 use Rattle.byteorder.specs.Endian.{big_bytes}
 use Rattle.byteorder.specs.Numbers.{length-bytes_high_first}
 use Rattle.gno_disk.specs.Disk.{Overwrites, Torn, LooseCut}
-use Rattle.gate_log.specs.Records.{HoldsNone, log_bytes, record_bytes}
-use Rattle.gate_log.specs.Steps.{IsReady, IsNoLog, PartOf, OldOrNone, IsFirst}
+use Rattle.gate_log.specs.Records.{HasNoLog, log_bytes, record_bytes}
+use Rattle.gate_log.specs.Steps.{IsReady, IsShut, PartOf, OldOrNone, StandsFirst}
 
 pub Torn-itself : (at n : ℕ) (bytes : List ℕ) → Torn at n bytes bytes
 Torn-itself at n bytes = record { before = refl; after = refl; no_shorter = omega arith; no_longer = omega arith }
@@ -30,36 +30,35 @@ Torn-overwritten at bytes old new inside over =
       no_longer = omega (arith, long, left);
     }
 
--- bytes whose first gate is closed hold no record
-pub HoldsNone-closed : (bytes : List ℕ) → slice_index bytes 0 ≢ 1 → HoldsNone bytes
-HoldsNone-closed bytes closed [] holds = refl
-HoldsNone-closed bytes closed (record_ ∷ records) holds = absurd (closed (ap (λ (l : List ℕ). slice_index l 0) holds.bytes_are))
+-- where the first gate is closed there is no log
+pub no_log-closed : (bytes : List ℕ) → slice_index bytes 0 ≢ 1 → HasNoLog bytes
+no_log-closed bytes closed = λ body begins. closed (ap (λ (l : List ℕ). slice_index l 0) begins.begins.bytes_are)
 
--- nor does one byte
-pub HoldsNone-short : (bytes : List ℕ) → length bytes ≤ 1 → HoldsNone bytes
-HoldsNone-short bytes short [] holds = refl
-HoldsNone-short bytes short (body ∷ records) holds =
-    absurd (omega (arith, ap length holds.bytes_are, length-append (log_bytes (body ∷ records)) (holds.gate ∷ holds.rest), length-append (record_bytes body) (log_bytes records), length-append (1 ∷ big_bytes 8 (length body)) body, length-bytes_high_first 8 (length body)))
+-- nor in one byte
+pub no_log-short : (bytes : List ℕ) → length bytes ≤ 1 → HasNoLog bytes
+no_log-short bytes short = λ body begins.
+    let next = begins.next_gate in
+    omega (arith, next, short, length-append (record_bytes body) (log_bytes []), length-append (1 ∷ big_bytes 8 (length body)) body, length-bytes_high_first 8 (length body))
 
 -- a first gate that is torn
 pub torn_first_gate : (old new : List ℕ) → (length old ≡ 0) ⊎ (slice_index old 0 ≡ 1) → Torn 0 1 old new → OldOrNone old new
-torn_first_gate [] new gate torn = inr (HoldsNone-short new torn.no_longer)
+torn_first_gate [] new gate torn = inr (no_log-short new torn.no_longer)
 torn_first_gate (x ∷ xs) [] gate torn = absurd (let h = torn.no_shorter in omega arith)
 torn_first_gate (x ∷ xs) (y ∷ ys) gate torn =
     let x_is : x ≡ 1 = elim gate as (λ _. x ≡ 1) [ inl none ↦ absurd (omega (arith, none)) | inr is ↦ is ] in
     let rest : ys ≡ xs = torn.after in
     elim (cases_eq y 1) [
       | inl open_ ↦ inl (ap (λ (b : ℕ). b ∷ ys) (open_ ∙ sym x_is) ∙ ap (λ (l : List ℕ). x ∷ l) rest)
-      | inr closed ↦ inr (HoldsNone-closed (y ∷ ys) closed)
+      | inr closed ↦ inr (no_log-closed (y ∷ ys) closed)
     ]
 
 -- the first byte of bytes that begin alike
 first_same : (old new : List ℕ) → take 1 new ≡ take 1 old → slice_index new 0 ≡ slice_index old 0
 first_same old new same = sym (get_or-take 1 new 0 0 (omega arith)) ∙ ap (λ (l : List ℕ). get_or l 0 0) same ∙ get_or-take 1 old 0 0 (omega arith)
 
--- behind a closed gate a cut leaves no record
-pub cut_none : (old new : List ℕ) → IsNoLog old → LooseCut 1 old new → HoldsNone new
-cut_none old new closed cut = HoldsNone-closed new (λ is. closed.closed (sym (first_same old new cut.front) ∙ is))
+-- behind a closed gate a cut leaves no log
+pub cut_none : (old new : List ℕ) → IsShut old → LooseCut 1 old new → HasNoLog new
+cut_none old new closed cut = no_log-closed new (λ is. closed.closed (sym (first_same old new cut.front) ∙ is))
 
 -- The gate of a record is torn, with the record behind it.
 module _ (gate : ℕ) (frame old mid new : List ℕ) (inside : gate < length old) (over : Overwrites (gate + 1) frame old mid) (torn : Torn gate 1 mid new) where
@@ -100,11 +99,11 @@ module _ (gate : ℕ) (frame old mid new : List ℕ) (inside : gate < length old
   )
 
 -- a part of a first record behind one closed gate
-pub first_part : (frame old new : List ℕ) → IsReady old → PartOf 0 frame old new → HoldsNone new ⊎ IsFirst frame new
+pub first_part : (frame old new : List ℕ) → IsReady old → PartOf 0 frame old new → HasNoLog new ⊎ StandsFirst frame new
 first_part frame [] new ready part = absurd (let h = ready.one in omega arith)
 first_part frame (x ∷ y ∷ xs) new ready part = absurd (let h = ready.one in omega arith)
-first_part frame (x ∷ []) new ready (inl same) = inl (HoldsNone-closed new (λ is. ready.closed (sym (first_same (x ∷ []) new same) ∙ is)))
+first_part frame (x ∷ []) new ready (inl same) = inl (no_log-closed new (λ is. ready.closed (sym (first_same (x ∷ []) new same) ∙ is)))
 first_part frame (x ∷ []) new ready (inr (byte, over)) = elim (cases_eq byte 1) [
   | inl open_ ↦ inr (x, subst (λ (b : ℕ). Overwrites 0 (b ∷ frame) (x ∷ []) new) open_ over)
-  | inr closed ↦ inl (HoldsNone-closed new (λ is. closed (sym (ap (λ (l : List ℕ). slice_index l 0) over) ∙ is)))
+  | inr closed ↦ inl (no_log-closed new (λ is. closed (sym (ap (λ (l : List ℕ). slice_index l 0) over) ∙ is)))
 ]

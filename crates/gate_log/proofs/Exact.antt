@@ -1,9 +1,9 @@
 -- Bytes hold at most one list of records, and bytes that are cut short hold none.
-use Rattle.std.proofs.Common.{◌≡◌, ◌≢◌, ℕ, ◌+◌, ◌<◌, ◌≤◌, ◌^◌, List, [], ◌∷◌, ◌++◌, length, take, drop, slice_index, inl, inr, refl, sym, ap, subst, ◌∙◌, arith, append_assoc, length-append, Option, IfSome}
+use Rattle.std.proofs.Common.{◌≡◌, ◌≢◌, ◌⊎◌, ℕ, ◌+◌, ◌<◌, ◌≤◌, ◌^◌, List, [], ◌∷◌, ◌++◌, length, take, drop, slice_index, inl, inr, refl, sym, ap, subst, ◌∙◌, arith, append_assoc, length-append, Option, IfSome}
 use Rattle.std.proofs.lemmas.List.{take_at, drop_at}
 use Rattle.byteorder.specs.Endian.{big_bytes, big_number}
 use Rattle.byteorder.specs.Numbers.{length-bytes_high_first, big_number-reads_back}
-use Rattle.gate_log.specs.Records.{BeginsWithNone, Holds, HoldsNoList, IsCutShort, IsDamaged, log_bytes, record_bytes}
+use Rattle.gate_log.specs.Records.{HasNoLog, Holds, HoldsNoList, IsCutShort, IsDamaged, log_bytes, record_bytes}
 use Rattle.gate_log.proofs.Moments.{told_with}
 
 -- a record and what stands behind it, with the body apart
@@ -66,16 +66,14 @@ Holds-one bytes rs ss short first second =
 
 -- no whole record stands first, with a gate behind it, where the bytes are cut short
 pub cut_short_first : (body rest : List ℕ) → length (record_bytes body ++ rest) ≤ 2 ^ 60 → 0 < length rest → IsCutShort (record_bytes body ++ rest) → ⊥
-cut_short_first body rest short some (inl none) = omega (arith, none, record_long body rest)
-cut_short_first body rest short some (inr (gate, inl few)) = omega (arith, few, record_long body rest)
-cut_short_first body rest short some (inr (gate, inr cut)) =
+cut_short_first body rest short some (gate, inl few) = omega (arith, few, record_long body rest)
+cut_short_first body rest short some (gate, inr cut) =
     let long = record_long body rest in
     omega (arith, cut, long, spelled body rest (omega (arith, long, short)))
 
 -- nor is it a closed gate
 cut_short_gate : (gate : ℕ) (rest : List ℕ) → gate ≢ 1 → IsCutShort (gate ∷ rest) → ⊥
-cut_short_gate gate rest shut (inl none) = omega (arith, none)
-cut_short_gate gate rest shut (inr cut) = shut cut.0
+cut_short_gate gate rest shut cut = shut cut.0
 
 -- records that are cut short aren't records with a closed gate behind them
 cut_short_records : (rs ss : List (List ℕ)) (rest : List ℕ) (gate : ℕ) (t : List ℕ) → gate ≢ 1 → length (log_bytes rs ++ rest) ≤ 2 ^ 60 → IsCutShort rest → log_bytes rs ++ rest ≡ log_bytes ss ++ gate ∷ t → ⊥
@@ -89,12 +87,53 @@ cut_short_records (a ∷ rs) (b ∷ ss) rest gate t shut short cut same =
 
 -- damaged bytes hold no list of records
 pub IsDamaged-never : (bytes : List ℕ) (at : ℕ) → length bytes ≤ 2 ^ 60 → IsDamaged bytes at → HoldsNoList bytes
-IsDamaged-never bytes at short damaged = λ records held.
-    cut_short_records damaged.records records damaged.rest held.gate held.rest held.closed (omega (arith, short, ap length damaged.bytes_are)) damaged.cut_short (sym damaged.bytes_are ∙ held.bytes_are)
+IsDamaged-never bytes at short damaged = λ records held. elim damaged.cut_short [
+  | inl none ↦ omega (arith, none, ap length held.bytes_are, length-append (log_bytes records) (held.gate ∷ held.rest))
+  | inr cut ↦ cut_short_records damaged.records records damaged.rest held.gate held.rest held.closed (omega (arith, short, ap length damaged.bytes_are)) cut (sym damaged.bytes_are ∙ held.bytes_are)
+]
 
--- no record stands whole where the bytes are cut short
-pub cut_short_none : (bytes : List ℕ) → length bytes ≤ 2 ^ 60 → IsCutShort bytes → BeginsWithNone bytes
-cut_short_none bytes short cut = λ body whole.
+-- What stands behind a record that is whole isn't empty, where it is cut short.
+some_left : (rest : List ℕ) → IsCutShort rest → 0 < length rest
+some_left [] cut = let gate = cut.0 in omega (arith, gate)
+some_left (gate ∷ rest) cut = omega arith
+
+-- behind two lists of records the same bytes are cut short
+cut_short_one : (rs ss : List (List ℕ)) (r s : List ℕ) → length (log_bytes rs ++ r) ≤ 2 ^ 60 → IsCutShort r → IsCutShort s → log_bytes rs ++ r ≡ log_bytes ss ++ s → length (log_bytes rs) ≡ length (log_bytes ss)
+cut_short_one [] [] r s short cut cut_too same = refl
+cut_short_one [] (b ∷ ss) r s short cut cut_too same =
+    let equal : r ≡ record_bytes b ++ (log_bytes ss ++ s) = same ∙ first_apart b ss s in
+    let some = some_left s cut_too in
+    absurd (cut_short_first b (log_bytes ss ++ s) (omega (arith, short, ap length equal)) (omega (arith, some, length-append (log_bytes ss) s)) (subst IsCutShort equal cut))
+cut_short_one (a ∷ rs) [] r s short cut cut_too same =
+    let equal : record_bytes a ++ (log_bytes rs ++ r) ≡ s = sym (first_apart a rs r) ∙ same in
+    let some = some_left r cut in
+    absurd (cut_short_first a (log_bytes rs ++ r) (omega (arith, short, ap length (first_apart a rs r))) (omega (arith, some, length-append (log_bytes rs) r)) (subst IsCutShort (sym equal) cut_too))
+cut_short_one (a ∷ rs) (b ∷ ss) r s short cut cut_too same =
+    let both = same_first a b rs ss r s short same in
+    let rest = cut_short_one rs ss r s (rest_short a rs r short) cut cut_too both.1 in
+    omega (arith, rest, ap length both.0, length-append (record_bytes a) (log_bytes rs), length-append (record_bytes b) (log_bytes ss), ap (λ (l : List ℕ). length (record_bytes l)) both.0)
+
+-- no byte is at place 0 alone
+none_at : (bytes : List ℕ) (records : List (List ℕ)) (rest : List ℕ) → length bytes ≡ 0 → bytes ≡ log_bytes records ++ rest → length (log_bytes records) ≡ 0
+none_at bytes records rest none are = omega (arith, none, ap length are, length-append (log_bytes records) rest)
+
+none_cut : (bytes : List ℕ) (records : List (List ℕ)) (rest : List ℕ) → length bytes ≡ 0 → bytes ≡ log_bytes records ++ rest → IsCutShort rest → ⊥
+none_cut bytes records rest none are cut = let some = some_left rest cut in omega (arith, none, some, ap length are, length-append (log_bytes records) rest)
+
+-- damaged bytes are damaged at one place
+pub IsDamaged-one : (bytes : List ℕ) (a b : ℕ) → length bytes ≤ 2 ^ 60 → IsDamaged bytes a → IsDamaged bytes b → a ≡ b
+IsDamaged-one bytes a b short first second = first.at_is ∙ places first.cut_short second.cut_short ∙ sym second.at_is
+  where
+    places : (length bytes ≡ 0) ⊎ IsCutShort first.rest → (length bytes ≡ 0) ⊎ IsCutShort second.rest → length (log_bytes first.records) ≡ length (log_bytes second.records)
+    places (inl none) why = none_at bytes first.records first.rest none first.bytes_are ∙ sym (none_at bytes second.records second.rest none second.bytes_are)
+    places (inr cut) (inl none) = absurd (none_cut bytes first.records first.rest none first.bytes_are cut)
+    places (inr cut) (inr cut_too) =
+        cut_short_one first.records second.records first.rest second.rest (omega (arith, short, ap length first.bytes_are)) cut cut_too (sym first.bytes_are ∙ second.bytes_are)
+
+-- there is no log where the first record is cut short
+pub cut_short_none : (bytes : List ℕ) → length bytes ≤ 2 ^ 60 → (length bytes ≡ 0) ⊎ IsCutShort bytes → HasNoLog bytes
+cut_short_none bytes short (inl none) = λ body whole. let next = whole.next_gate in omega (arith, next, none)
+cut_short_none bytes short (inr cut) = λ body whole.
     let rest = whole.begins.rest in
     let equal : bytes ≡ record_bytes body ++ rest = whole.begins.bytes_are ∙ first_apart body [] rest in
     let next = whole.next_gate in
@@ -105,5 +144,5 @@ module _ (told : Option (List ℕ)) (size : ℕ) (whole : IfSome told (λ bytes.
   pub told_never : (at : ℕ) → IfSome told (λ bytes. IsDamaged bytes at) → IfSome told HoldsNoList
   told_never at damaged = told_with told whole damaged (λ bytes long d. IsDamaged-never bytes at (omega (arith, long, short)) d)
 
-  pub told_cut_none : IfSome told IsCutShort → IfSome told BeginsWithNone
+  pub told_cut_none : IfSome told (λ bytes. (length bytes ≡ 0) ⊎ IsCutShort bytes) → IfSome told HasNoLog
   told_cut_none cut = told_with told whole cut (λ bytes long c. cut_short_none bytes (omega (arith, long, short)) c)

@@ -1,38 +1,43 @@
 -- What has been found of the records of a log.
-use Rattle.std.proofs.Common.{◌≡◌, ℕ, ◌+◌, ◌<◌, ◌≤◌, ◌^◌, List, [], ◌∷◌, ◌++◌, length, take, drop, get_or, Option, Some, None, IfSome, refl, sym, ap, subst, ◌∙◌, arith, append_assoc, length-append, length-take, length-drop, take-append-drop}
+use Rattle.std.proofs.Common.{◌≡◌, ◌⊎◌, ℕ, ◌+◌, ◌<◌, ◌≤◌, ◌^◌, List, [], ◌∷◌, ◌++◌, length, take, drop, get_or, Option, Some, None, IfSome, inl, inr, refl, sym, ap, subst, ◌∙◌, arith, append_assoc, length-append, length-take, length-drop, take-append-drop}
 use Rattle.std.proofs.lemmas.Nat.{be_bytes_8}
 use Rattle.std.proofs.lemmas.List.{take_at, drop_more, map_push, flat_map_more, length-take-le, drop-drop}
 use Rattle.byteorder.specs.Endian.{big_bytes, big_number}
 use Rattle.byteorder.specs.Numbers.{length-bytes_high_first}
 use Rattle.gate_log.specs.Records.{log_bytes, record_bytes, BeginsWith, HoldsNoList, IsCutShort, IsDamaged}
 use Rattle.gate_log.proofs.Exact.{told_never}
-use Rattle.gate_log.specs.Places.{body_at, bodies_at, Spans, IsWritten}
-use Rattle.gate_log.specs.Scan.{IfCutShort, IsRecordAt}
+use Rattle.gate_log.specs.Places.{body_at, bodies_at, Spans, AreWritten}
+use Rattle.gate_log.specs.Scan.{IfCutShort, IsRecordAt, IsPieceOf}
 use Rattle.gate_log.specs.declared.scan.Stop.{Stop}
 use Rattle.gate_log.specs.declared.scan.Stop.TheVariants.{Failed, CutShort, NoMemory}
 use Rattle.gate_log.specs.Steps.{IsSynced, IsUntouched}
 use Rattle.gate_log.specs.declared.place.Place.{Place}
+use Rattle.gate_log.specs.declared.piece.Piece.{Piece}
+use Rattle.gno_disk.specs.declared.disk.Disk.{Ghosts}
 
 -- a number's bytes, from the bytes that it was read from
 pub big_back : (bytes : List ℕ) → length bytes ≡ 8 → ((i : ℕ) → get_or bytes i 0 < 256) → big_bytes 8 (big_number 8 bytes) ≡ bytes
 big_back bytes long fit = be_bytes_8 bytes (big_number 8 bytes) long fit (grind arith)
 
 -- The records up to an end are found, and nothing has changed since.
-pub record IsScanned {D : Type 0} (told : D → Option (List ℕ)) (size : D → ℕ) (may_leave : D → List ℕ → Type 0) (moment : D → ℕ) (left_since : D → ℕ → List ℕ → Type 0) (faults : D → ℕ)
-    (old disk : D) (places : List Place) (end len : ℕ) : Type 0 where
-  pub untouched : IsUntouched told size may_leave moment left_since old disk
-  pub synced : IsSynced (told disk) (may_leave disk)
+pub record IsScanned {D : Type 0} (g : Ghosts D) (old disk : D) (places : List Place) (p : Piece) (end len : ℕ) : Type 0 where
+  pub untouched : IsUntouched g old disk
+  pub synced : IsSynced (g.told disk) (g.may_leave disk)
   pub spans : Spans places 0 end
-  pub written : IfSome (told old) (IsWritten places end)
+  pub written : IfSome (g.told old) (AreWritten places end)
   pub inside : end ≤ len
-  pub len_is : len ≡ size old
+  pub begun : (end ≡ 0) ⊎ (end < len)
+  pub len_is : len ≡ g.size old
   pub limit : len ≤ 2 ^ 60
-  pub later : faults old ≤ faults disk
+  pub later : g.faults old ≤ g.faults disk
+  pub came : g.came 1 old disk
+  pub piece : IsPieceOf len (g.told old) p
+  pub before : p.at ≤ end
 
 -- one record more
-pub IsWritten-next : (places : List Place) (end : ℕ) (place : Place) (bytes : List ℕ) → Spans places 0 end → end < length bytes → IsWritten places end bytes → place.at ≡ end + 9 → place.at + place.len < length bytes → IsRecordAt end place bytes
-    → IsWritten (places ++ place ∷ []) (place.at + place.len) bytes
-IsWritten-next places end place bytes spans inside written at fits is =
+pub AreWritten-next : (places : List Place) (end : ℕ) (place : Place) (bytes : List ℕ) → Spans places 0 end → end < length bytes → AreWritten places end bytes → place.at ≡ end + 9 → place.at + place.len < length bytes → IsRecordAt end place bytes
+    → AreWritten (places ++ place ∷ []) (place.at + place.len) bytes
+AreWritten-next places end place bytes spans inside written at fits is =
     let body = body_at bytes place in
     let big = big_bytes 8 place.len in
     let back = drop place.len (drop place.at bytes) in
@@ -54,7 +59,7 @@ IsWritten-next places end place bytes spans inside written at fits is =
     ∙ ap log_bytes (sym (map_push (body_at bytes) places place))
 
 -- where the bytes are cut short behind the records
-pub IsDamaged-from : (places : List Place) (end : ℕ) (bytes : List ℕ) → end ≤ length bytes → IsWritten places end bytes → IsCutShort (drop end bytes) → IsDamaged bytes end
+pub IsDamaged-from : (places : List Place) (end : ℕ) (bytes : List ℕ) → end ≤ length bytes → AreWritten places end bytes → (length bytes ≡ 0) ⊎ IsCutShort (drop end bytes) → IsDamaged bytes end
 IsDamaged-from places end bytes inside written cut = record {
   records = bodies_at places bytes;
   rest = drop end bytes;
@@ -70,14 +75,20 @@ told_both (Some bytes) a b c follows = follows bytes a b c
 
 -- the same where the disk tells its bytes
 module _ (told : Option (List ℕ)) (size : ℕ) (whole : IfSome told (λ bytes. length bytes ≡ size)) (places : List Place) (end : ℕ) where
-  pub told_next : (place : Place) → Spans places 0 end → IfSome told (IsWritten places end) → place.at ≡ end + 9 → place.at + place.len < size → IfSome told (IsRecordAt end place) → IfSome told (IsWritten (places ++ place ∷ []) (place.at + place.len))
-  told_next place spans written at fits is = told_both told whole written is (λ bytes long w i. IsWritten-next places end place bytes spans (omega arith) w at (omega arith) i)
+  pub told_next : (place : Place) → Spans places 0 end → IfSome told (AreWritten places end) → place.at ≡ end + 9 → place.at + place.len < size → IfSome told (IsRecordAt end place) → IfSome told (AreWritten (places ++ place ∷ []) (place.at + place.len))
+  told_next place spans written at fits is = told_both told whole written is (λ bytes long w i. AreWritten-next places end place bytes spans (omega arith) w at (omega arith) i)
 
-  pub damaged_from : (stop : Stop) → end ≤ size → IfSome told (IsWritten places end) → IfCutShort stop (λ at. at ≡ end) → IfCutShort stop (λ at. IfSome told (λ bytes. IsCutShort (drop end bytes))) → IfCutShort stop (λ at. IfSome told (λ bytes. IsDamaged bytes at))
-  damaged_from Failed inside written is cut = is
-  damaged_from NoMemory inside written is cut = is
-  damaged_from (CutShort at) inside written is cut =
-      told_both told whole written cut (λ bytes long w i. subst (λ (n : ℕ). IsDamaged bytes n) (sym is) (IsDamaged-from places end bytes (omega arith) w i))
+  pub damaged_from : (stop : Stop) → (end ≡ 0) ⊎ (end < size) → IfSome told (AreWritten places end) → IfCutShort stop (λ at. at ≡ end) → IfCutShort stop (λ at. IfSome told (λ bytes. (length bytes ≡ end) ⊎ IsCutShort (drop end bytes))) → IfCutShort stop (λ at. IfSome told (λ bytes. IsDamaged bytes at))
+  damaged_from Failed begun written is cut = is
+  damaged_from NoMemory begun written is cut = is
+  damaged_from (CutShort at) begun written is cut =
+      told_both told whole written cut (λ bytes long w i. subst (λ (n : ℕ). IsDamaged bytes n) (sym is)
+      (IsDamaged-from places end bytes (elim begun [ inl none ↦ omega (arith, none) | inr lt ↦ omega (arith, lt, long) ]) w (at_gate bytes long begun i)))
+    where
+      at_gate : (bytes : List ℕ) → length bytes ≡ size → (end ≡ 0) ⊎ (end < size) → (length bytes ≡ end) ⊎ IsCutShort (drop end bytes) → (length bytes ≡ 0) ⊎ IsCutShort (drop end bytes)
+      at_gate bytes long (inl none) (inl all) = inl (all ∙ none)
+      at_gate bytes long (inr lt) (inl all) = absurd (omega (arith, lt, all, long))
+      at_gate bytes long begun (inr cut) = inr cut
 
   -- bytes that are cut short hold no list of records
   pub never_from : (stop : Stop) → size ≤ 2 ^ 60 → IfCutShort stop (λ at. IfSome told (λ bytes. IsDamaged bytes at)) → IfCutShort stop (λ at. IfSome told HoldsNoList)
@@ -89,7 +100,7 @@ module _ (told : Option (List ℕ)) (size : ℕ) (whole : IfSome told (λ bytes.
 BeginsWith-at : (place : Place) (body bytes : List ℕ) → place.at ≡ 9 → place.at + place.len < length bytes → IsRecordAt 0 place bytes → body ≡ take place.len (drop place.at bytes) → BeginsWith body bytes
 BeginsWith-at place body bytes at fits is body_is =
     let end = place.at + place.len in
-    let written : take end bytes ≡ log_bytes (body_at bytes place ∷ []) = IsWritten-next [] 0 place bytes refl (omega (arith, fits)) refl at fits is in
+    let written : take end bytes ≡ log_bytes (body_at bytes place ∷ []) = AreWritten-next [] 0 place bytes refl (omega (arith, fits)) refl at fits is in
     let front : take end bytes ≡ log_bytes (body ∷ []) = written ∙ ap (λ (b : List ℕ). log_bytes (b ∷ [])) (sym body_is) in
     record {
       begins = record {

@@ -4,24 +4,25 @@ use Rattle.std.specs.Prelude.{option_map}
 use Rattle.std.proofs.lemmas.Option.{slice_get-map, slice_get-get_or}
 use Rattle.byteorder.specs.Endian.{big_bytes}
 use Rattle.gno_disk.specs.Disk.{Overwrites, Told}
-use Rattle.gate_log.specs.LogView.{LogView, Adds, IsOfRecords, IsOldOrAdded, IsOldOrFirst, IsDurable}
+use Rattle.gate_log.specs.LogView.{LogView, Adds, IsOfRecords, IsOldOrAdded, IsLasting}
 use Rattle.gate_log.specs.Inside.{view_of, IsLog}
 use Rattle.gate_log.specs.declared.log.Log.TheInside.{Inside}
 use Rattle.gate_log.specs.Records.{Begins, Holds}
-use Rattle.gate_log.specs.Steps.{KeepsBefore, PartOf, OldOrNone, IsFirst as IsFirstOf, IsSynced}
-use Rattle.gate_log.specs.Places.{body_at, bodies_at, Spans, IsWritten, IsClosed}
+use Rattle.gate_log.specs.Steps.{KeepsBefore, PartOf, IsSynced}
+use Rattle.gate_log.specs.Places.{body_at, bodies_at, Spans, AreWritten, IsClosed}
 use Rattle.gate_log.specs.declared.place.Place.{Place}
+use Rattle.gno_disk.specs.declared.disk.Disk.{Ghosts}
 use Rattle.gate_log.proofs.Exact.{Holds-one}
 use Rattle.gate_log.proofs.Moments.{told_onto, told_weaker}
-use Rattle.gate_log.proofs.PlaceLemmas.{Spans-push, IsWritten-same, bodies_at-same, Holds-from_written, part_holds, new_holds, new_bodies, new_written, new_closed}
+use Rattle.gate_log.proofs.PlaceLemmas.{Spans-push, AreWritten-same, bodies_at-same, Holds-from_written, part_holds, new_holds, new_bodies, new_written, new_closed}
 
 module _ (places : List Place) (end : ℕ) (spans : Spans places 0 end) where
   -- the records stay written where the bytes before the end stay
-  pub kept_written : (old new : Option (List ℕ)) → Told (KeepsBefore end) old new → IfSome old (IsWritten places end) → IfSome new (IsWritten places end)
+  pub kept_written : (old new : Option (List ℕ)) → Told (KeepsBefore end) old new → IfSome old (AreWritten places end) → IfSome new (AreWritten places end)
   kept_written None None told written = written
   kept_written None (Some new) told written = absurd told
   kept_written (Some old) None told written = absurd told
-  kept_written (Some old) (Some new) told written = IsWritten-same places end old new spans told written
+  kept_written (Some old) (Some new) told written = AreWritten-same places end old new spans told written
 
   -- and are the same
   pub kept_records : (old new : Option (List ℕ)) → Told (KeepsBefore end) old new → option_map (bodies_at places) new ≡ option_map (bodies_at places) old
@@ -31,7 +32,7 @@ module _ (places : List Place) (end : ℕ) (spans : Spans places 0 end) where
   kept_records (Some old) (Some new) told = ap Some (bodies_at-same places 0 end old new spans told)
 
   -- the disk begins with the records
-  pub told_begins : (told : Option (List ℕ)) → IfSome told (IsWritten places end) → IfSome told (λ bytes. IfSome (option_map (bodies_at places) told) (Begins bytes))
+  pub told_begins : (told : Option (List ℕ)) → IfSome told (AreWritten places end) → IfSome told (λ bytes. IfSome (option_map (bodies_at places) told) (Begins bytes))
   told_begins None written = written
   told_begins (Some bytes) written = record {
     rest = drop end bytes;
@@ -39,13 +40,13 @@ module _ (places : List Place) (end : ℕ) (spans : Spans places 0 end) where
   }
 
   -- the disk holds the records where a closed gate stands behind them
-  pub told_holds : (size : ℕ) (told : Option (List ℕ)) → IfSome told (λ bytes. length bytes ≡ size) → end < size → IfSome told (IsWritten places end) → IfSome told (IsClosed end)
+  pub told_holds : (size : ℕ) (told : Option (List ℕ)) → IfSome told (λ bytes. length bytes ≡ size) → end < size → IfSome told (AreWritten places end) → IfSome told (IsClosed end)
       → IfSome told (λ bytes. IfSome (option_map (bodies_at places) told) (Holds bytes))
   told_holds size None whole inside written closed = written
   told_holds size (Some bytes) whole inside written closed = Holds-from_written places end bytes (omega arith) written closed
 
   -- and no others
-  pub told_exact : (size : ℕ) (told : Option (List ℕ)) → IfSome told (λ bytes. length bytes ≡ size) → size ≤ 2 ^ 60 → end < size → IfSome told (IsWritten places end) → IfSome told (IsClosed end)
+  pub told_exact : (size : ℕ) (told : Option (List ℕ)) → IfSome told (λ bytes. length bytes ≡ size) → size ≤ 2 ^ 60 → end < size → IfSome told (AreWritten places end) → IfSome told (IsClosed end)
       → IfSome told (λ bytes. (records : List (List ℕ)) → Holds bytes records → option_map (bodies_at places) told ≡ Some records)
   told_exact size None whole short inside written closed = written
   told_exact size (Some bytes) whole short inside written closed = λ records held.
@@ -56,21 +57,21 @@ module _ (places : List Place) (end : ℕ) (spans : Spans places 0 end) where
     over_is : (old new : List ℕ) → Overwrites end (1 ∷ frame) old new → Overwrites end (1 ∷ (big_bytes 8 (length body) ++ body ++ 0 ∷ [])) old new
     over_is old new over = rw framed at over
 
-    pub added_written : (old new : Option (List ℕ)) → IfSome old (λ bytes. length bytes ≡ size) → IfSome old (IsWritten places end) → Told (Overwrites end (1 ∷ frame)) old new
-        → IfSome new (IsWritten (places ++ (record { at = end + 9; len = length body }) ∷ []) (end + 9 + length body))
+    pub added_written : (old new : Option (List ℕ)) → IfSome old (λ bytes. length bytes ≡ size) → IfSome old (AreWritten places end) → Told (Overwrites end (1 ∷ frame)) old new
+        → IfSome new (AreWritten (places ++ (record { at = end + 9; len = length body }) ∷ []) (end + 9 + length body))
     added_written None None whole written told = written
     added_written None (Some new) whole written told = absurd told
     added_written (Some old) None whole written told = absurd told
     added_written (Some old) (Some new) whole written told = new_written places end old new body spans (omega arith) written (over_is old new told)
 
-    pub added_closed : (old new : Option (List ℕ)) → IfSome old (λ bytes. length bytes ≡ size) → IfSome old (IsWritten places end) → Told (Overwrites end (1 ∷ frame)) old new
+    pub added_closed : (old new : Option (List ℕ)) → IfSome old (λ bytes. length bytes ≡ size) → IfSome old (AreWritten places end) → Told (Overwrites end (1 ∷ frame)) old new
         → IfSome new (IsClosed (end + 9 + length body))
     added_closed None None whole written told = written
     added_closed None (Some new) whole written told = absurd told
     added_closed (Some old) None whole written told = absurd told
     added_closed (Some old) (Some new) whole written told = new_closed places end old new body spans (omega arith) written (over_is old new told)
 
-    pub added_records : (old new : Option (List ℕ)) → IfSome old (λ bytes. length bytes ≡ size) → IfSome old (IsWritten places end) → Told (Overwrites end (1 ∷ frame)) old new
+    pub added_records : (old new : Option (List ℕ)) → IfSome old (λ bytes. length bytes ≡ size) → IfSome old (AreWritten places end) → Told (Overwrites end (1 ∷ frame)) old new
         → Adds (option_map (bodies_at places) old) (option_map (bodies_at (places ++ (record { at = end + 9; len = length body }) ∷ [])) new) body
     added_records None None whole written told = written
     added_records None (Some new) whole written told = absurd told
@@ -79,12 +80,12 @@ module _ (places : List Place) (end : ℕ) (spans : Spans places 0 end) where
 
     -- the same, where the places, the end and the records go by other names
     module _ (items : List Place) (next : ℕ) (items_are : items ≡ places ++ (record { at = end + 9; len = length body }) ∷ []) (next_is : next ≡ end + 9 + length body) where
-      pub next_written : (old new : Option (List ℕ)) → IfSome old (λ bytes. length bytes ≡ size) → IfSome old (IsWritten places end) → Told (Overwrites end (1 ∷ frame)) old new → IfSome new (IsWritten items next)
+      pub next_written : (old new : Option (List ℕ)) → IfSome old (λ bytes. length bytes ≡ size) → IfSome old (AreWritten places end) → Told (Overwrites end (1 ∷ frame)) old new → IfSome new (AreWritten items next)
       next_written old new whole written told =
-          subst (λ (ps : List Place). IfSome new (IsWritten ps next)) (sym items_are)
-          (subst (λ (n : ℕ). IfSome new (IsWritten (places ++ (record { at = end + 9; len = length body }) ∷ []) n)) (sym next_is) (added_written old new whole written told))
+          subst (λ (ps : List Place). IfSome new (AreWritten ps next)) (sym items_are)
+          (subst (λ (n : ℕ). IfSome new (AreWritten (places ++ (record { at = end + 9; len = length body }) ∷ []) n)) (sym next_is) (added_written old new whole written told))
 
-      pub next_closed : (old new : Option (List ℕ)) → IfSome old (λ bytes. length bytes ≡ size) → IfSome old (IsWritten places end) → Told (Overwrites end (1 ∷ frame)) old new → IfSome new (IsClosed next)
+      pub next_closed : (old new : Option (List ℕ)) → IfSome old (λ bytes. length bytes ≡ size) → IfSome old (AreWritten places end) → Told (Overwrites end (1 ∷ frame)) old new → IfSome new (IsClosed next)
       next_closed old new whole written told =
           subst (λ (n : ℕ). IfSome new (IsClosed n)) (sym next_is) (added_closed old new whole written told)
 
@@ -94,7 +95,7 @@ module _ (places : List Place) (end : ℕ) (spans : Spans places 0 end) where
           (subst (λ (n : ℕ). Spans (places ++ (record { at = end + 9; len = length body }) ∷ []) 0 n) (sym next_is) (Spans-push places 0 end (record { at = end + 9; len = length body }) spans refl))
 
       pub next_records : (old new : Option (List ℕ)) (records : Option (List (List ℕ))) → option_map (bodies_at places) old ≡ records
-          → IfSome old (λ bytes. length bytes ≡ size) → IfSome old (IsWritten places end) → Told (Overwrites end (1 ∷ frame)) old new → Adds records (option_map (bodies_at items) new) body
+          → IfSome old (λ bytes. length bytes ≡ size) → IfSome old (AreWritten places end) → Told (Overwrites end (1 ∷ frame)) old new → Adds records (option_map (bodies_at items) new) body
       next_records old new records records_are whole written told =
           subst (λ (ps : List Place). Adds records (option_map (bodies_at ps) new) body) (sym items_are)
           (subst (λ (rs : Option (List (List ℕ))). Adds rs (option_map (bodies_at (places ++ (record { at = end + 9; len = length body }) ∷ [])) new) body) records_are (added_records old new whole written told))
@@ -108,41 +109,10 @@ read_record places index place (Some bytes) body within place_is body_is =
     ∙ ap (λ (found : Option Place). option_map (body_at bytes) found) (slice_get-get_or places index place within)
     ∙ ap (λ (p : Place). Some (body_at bytes p)) (sym place_is) ∙ ap Some (sym body_is)
 
--- The first record of a log, which stands at place 0 of a disk that had one gate.
-module _ (body frame : List ℕ) (framed : frame ≡ big_bytes 8 (length body) ++ body ++ 0 ∷ []) where
-  abbrev pub IsFirst : List ℕ → List ℕ → Type 0
-  IsFirst old new = (gate : ℕ) × Overwrites 0 (1 ∷ frame) (gate ∷ []) new
-
-  first_over : (new : List ℕ) (first : (gate : ℕ) × Overwrites 0 (1 ∷ frame) (gate ∷ []) new) → Overwrites 0 (1 ∷ (big_bytes 8 (length body) ++ body ++ 0 ∷ [])) (first.0 ∷ []) new
-  first_over new first = rw framed at first.1
-
-  pub first_written : (old new : Option (List ℕ)) → Told IsFirst old new → IfSome new (IsWritten ((record { at = 9; len = length body }) ∷ []) (9 + length body))
-  first_written None None told = told
-  first_written None (Some new) told = absurd told
-  first_written (Some old) None told = absurd told
-  first_written (Some old) (Some new) told = new_written [] 0 (told.0 ∷ []) new body refl (omega arith) refl (first_over new told)
-
-  pub first_closed : (old new : Option (List ℕ)) → Told IsFirst old new → IfSome new (IsClosed (9 + length body))
-  first_closed None None told = told
-  first_closed None (Some new) told = absurd told
-  first_closed (Some old) None told = absurd told
-  first_closed (Some old) (Some new) told = new_closed [] 0 (told.0 ∷ []) new body refl (omega arith) refl (first_over new told)
-
-  pub first_records : (old new : Option (List ℕ)) → Told IsFirst old new → IfSome (option_map (bodies_at ((record { at = 9; len = length body }) ∷ [])) new) (λ records. records ≡ body ∷ [])
-  first_records None None told = told
-  first_records None (Some new) told = absurd told
-  first_records (Some old) None told = absurd told
-  first_records (Some old) (Some new) told = new_bodies [] 0 (told.0 ∷ []) new body refl (omega arith) refl (first_over new told)
-
--- what a first record leaves
-pub first_holds : (body frame old new : List ℕ) → frame ≡ big_bytes 8 (length body) ++ body ++ 0 ∷ [] → OldOrNone old new ⊎ IsFirstOf frame new → IsOldOrFirst body old new
-first_holds body frame old new framed (inl has) = inl has
-first_holds body frame old new framed (inr (gate, over)) = inr (new_holds [] 0 (gate ∷ []) new body refl (omega arith) refl (subst (λ (f : List ℕ). Overwrites 0 (1 ∷ f) (gate ∷ []) new) framed over))
-
 module _ (places : List Place) (end size : ℕ) (spans : Spans places 0 end) (inside : end < size) where
   -- what the parts of a record leave
   pub told_part : (body frame : List ℕ) → frame ≡ big_bytes 8 (length body) ++ body ++ 0 ∷ [] → (told : Option (List ℕ)) (records : Option (List (List ℕ))) → option_map (bodies_at places) told ≡ records
-      → IfSome told (λ bytes. length bytes ≡ size) → IfSome told (IsWritten places end) → IfSome told (IsClosed end)
+      → IfSome told (λ bytes. length bytes ≡ size) → IfSome told (AreWritten places end) → IfSome told (IsClosed end)
       → (image : List ℕ) → IfSome told (λ bytes. PartOf end frame bytes image) → IsOldOrAdded records body image
   told_part body frame framed None records records_are whole written closed image part = subst (λ (rs : Option (List (List ℕ))). IsOldOrAdded rs body image) records_are part
   told_part body frame framed (Some bytes) records records_are whole written closed image part =
@@ -151,7 +121,7 @@ module _ (places : List Place) (end size : ℕ) (spans : Spans places 0 end) (in
 
   -- what is synced holds the records
   pub told_durable : (told : Option (List ℕ)) (records : Option (List (List ℕ))) (may_leave : List ℕ → Type 0) → option_map (bodies_at places) told ≡ records
-      → IfSome told (λ bytes. length bytes ≡ size) → IfSome told (IsWritten places end) → IfSome told (IsClosed end) → IsSynced told may_leave
+      → IfSome told (λ bytes. length bytes ≡ size) → IfSome told (AreWritten places end) → IfSome told (IsClosed end) → IsSynced told may_leave
       → (image : List ℕ) → may_leave image → IsOfRecords records image
   told_durable None records may_leave records_are whole written closed synced image left = subst (λ (rs : Option (List (List ℕ))). IsOfRecords rs image) records_are synced
   told_durable (Some bytes) records may_leave records_are whole written closed synced image left =
@@ -160,7 +130,7 @@ module _ (places : List Place) (end size : ℕ) (spans : Spans places 0 end) (in
 
   -- the bytes that are told hold the records
   pub told_stands : (told : Option (List ℕ)) (records : Option (List (List ℕ))) → option_map (bodies_at places) told ≡ records
-      → IfSome told (λ bytes. length bytes ≡ size) → IfSome told (IsWritten places end) → IfSome told (IsClosed end) → IfSome told (IsOfRecords records)
+      → IfSome told (λ bytes. length bytes ≡ size) → IfSome told (AreWritten places end) → IfSome told (IsClosed end) → IfSome told (IsOfRecords records)
   told_stands None records records_are whole written closed = written
   told_stands (Some bytes) records records_are whole written closed =
       subst (λ (rs : Option (List (List ℕ))). IsOfRecords rs bytes) records_are (Holds-from_written places end bytes (omega (arith, whole, inside)) written closed)
@@ -171,28 +141,28 @@ old_or_added None body image has = has
 old_or_added (Some rs) body image has = inl has
 
 -- What a log keeps, seen from outside.
-module _ {D : Type 0} (told : D → Option (List ℕ)) (size : D → ℕ) (may_leave : D → List ℕ → Type 0) (l : Inside D) (v : LogView D) (view_is : view_of told l ≡ v)
-    (log : IsLog told size may_leave l) (whole : IfSome (told l.disk) (λ bytes. length bytes ≡ size l.disk)) (sound : v.broken ≡ false) where
+module _ {D : Type 0} (g : Ghosts D) (l : Inside D) (v : LogView D) (view_is : view_of g l ≡ v)
+    (log : IsLog g l) (whole : IfSome (g.told l.disk) (λ bytes. length bytes ≡ g.size l.disk)) (sound : v.broken ≡ false) where
   unbroken : l.broken ≡ false
   unbroken = ap (λ (w : LogView D). w.broken) view_is ∙ sound
 
-  pub log_durable : (image : List ℕ) → may_leave l.disk image → IsOfRecords v.records image
-  log_durable = told_durable l.places.items l.end (size l.disk) log.places (log.room unbroken) (told l.disk) v.records (may_leave l.disk) (ap (λ (w : LogView D). w.records) view_is) whole log.written (log.closed unbroken) (log.durable unbroken)
+  pub log_durable : (image : List ℕ) → g.may_leave l.disk image → IsOfRecords v.records image
+  log_durable = told_durable l.places.items l.end (g.size l.disk) log.places (log.room unbroken) (g.told l.disk) v.records (g.may_leave l.disk) (ap (λ (w : LogView D). w.records) view_is) whole log.written (log.closed unbroken) (log.durable unbroken)
 
-  pub view_durable : IsDurable may_leave v
-  view_durable = λ image left. log_durable image (subst (λ (d : D). may_leave d image) (sym (ap (λ (w : LogView D). w.disk) view_is)) left)
+  pub view_durable : IsLasting g v
+  view_durable = λ image left. log_durable image (subst (λ (d : D). g.may_leave d image) (sym (ap (λ (w : LogView D). w.disk) view_is)) left)
 
-  pub log_part : (body frame : List ℕ) → frame ≡ big_bytes 8 (length body) ++ body ++ 0 ∷ [] → (image : List ℕ) → IfSome (told l.disk) (λ bytes. PartOf l.end frame bytes image) → IsOldOrAdded v.records body image
+  pub log_part : (body frame : List ℕ) → frame ≡ big_bytes 8 (length body) ++ body ++ 0 ∷ [] → (image : List ℕ) → IfSome (g.told l.disk) (λ bytes. PartOf l.end frame bytes image) → IsOldOrAdded v.records body image
   log_part body frame framed =
-      told_part l.places.items l.end (size l.disk) log.places (log.room unbroken) body frame framed (told l.disk) v.records (ap (λ (w : LogView D). w.records) view_is) whole log.written (log.closed unbroken)
+      told_part l.places.items l.end (g.size l.disk) log.places (log.room unbroken) body frame framed (g.told l.disk) v.records (ap (λ (w : LogView D). w.records) view_is) whole log.written (log.closed unbroken)
 
   -- the bytes that are told hold the records
-  pub log_stands : IfSome (told l.disk) (IsOfRecords v.records)
-  log_stands = told_stands l.places.items l.end (size l.disk) log.places (log.room unbroken) (told l.disk) v.records (ap (λ (w : LogView D). w.records) view_is) whole log.written (log.closed unbroken)
+  pub log_stands : IfSome (g.told l.disk) (IsOfRecords v.records)
+  log_stands = told_stands l.places.items l.end (g.size l.disk) log.places (log.room unbroken) (g.told l.disk) v.records (ap (λ (w : LogView D). w.records) view_is) whole log.written (log.closed unbroken)
 
-  pub log_stands_still : (body : List ℕ) → IfSome (told l.disk) (IsOldOrAdded v.records body)
-  log_stands_still body = told_weaker (told l.disk) (IsOfRecords v.records) (IsOldOrAdded v.records body) (λ image has. old_or_added v.records body image has) log_stands
+  pub log_stands_still : (body : List ℕ) → IfSome (g.told l.disk) (IsOldOrAdded v.records body)
+  log_stands_still body = told_weaker (g.told l.disk) (IsOfRecords v.records) (IsOldOrAdded v.records body) (λ image has. old_or_added v.records body image has) log_stands
 
   -- with a record that was written in part, or whole
-  pub log_part_stands : (body frame : List ℕ) → frame ≡ big_bytes 8 (length body) ++ body ++ 0 ∷ [] → (new : Option (List ℕ)) → Told (PartOf l.end frame) (told l.disk) new → IfSome new (IsOldOrAdded v.records body)
-  log_part_stands body frame framed new over = told_onto (told l.disk) new (PartOf l.end frame) (IsOldOrAdded v.records body) over (log_part body frame framed)
+  pub log_part_stands : (body frame : List ℕ) → frame ≡ big_bytes 8 (length body) ++ body ++ 0 ∷ [] → (new : Option (List ℕ)) → Told (PartOf l.end frame) (g.told l.disk) new → IfSome new (IsOldOrAdded v.records body)
+  log_part_stands body frame framed new over = told_onto (g.told l.disk) new (PartOf l.end frame) (IsOldOrAdded v.records body) over (log_part body frame framed)

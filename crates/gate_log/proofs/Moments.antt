@@ -1,7 +1,9 @@
 -- What the device calls of a log may leave.
-use Rattle.std.proofs.Common.{◌≡◌, ℕ, ◌≤◌, List, Option, Some, None, IfSome, inl, inr, refl, sym, subst, ◌∙◌}
-use Rattle.gno_disk.specs.Disk.{Told, Follows, NoMore, Elapses, LeavesOnly}
-use Rattle.gno_disk.specs.Moments.{LeavesOnly-start, LeavesOnly-call, LeavesOnly-then, LeavesOnly-weaker}
+use Rattle.std.proofs.Common.{◌≡◌, ℕ, ◌≤◌, List, Option, Some, None, Result, Ok, Err, OnOk, IfSome, inl, inr, refl, sym, subst, ◌∙◌}
+use Rattle.gno_disk.specs.Disk.{Told, Follows, NoMore, Elapses}
+use Rattle.gno_disk.specs.Moments.{LeavesOnly}
+use Rattle.gno_disk.proofs.Moments.{LeavesOnly-start, LeavesOnly-call, LeavesOnly-then, LeavesOnly-weaker}
+use Rattle.gno_disk.specs.declared.disk.Disk.{Ghosts}
 use Rattle.gate_log.specs.Steps.{IsSynced, Leaves, IsUntouched, IsRemade, IsRemadeOrStill}
 
 -- what images after a call have, where they are those of known bytes after a step
@@ -33,6 +35,11 @@ same_told (Some bytes) = refl
 
 pub told_equal : (old new : Option (List ℕ)) → new ≡ old → Told (λ old new. new ≡ old) old new
 told_equal old new same = subst (λ (t : Option (List ℕ)). Told (λ a b. b ≡ a) old t) (sym same) (same_told old)
+
+-- what holds in any case holds on Ok
+pub on_ok : {T E : Type 0} (result : Result T E) {P : Type 0} → P → OnOk result P
+on_ok (Ok value) has = has
+on_ok (Err fault) has = tt
 
 -- a fact of the bytes told
 pub told_weaker : (told : Option (List ℕ)) (P Q : List ℕ → Type 0) → ((b : List ℕ) → P b → Q b) → IfSome told P → IfSome told Q
@@ -67,98 +74,107 @@ told_steps (Some old) None new P Q R H has first second follows = absurd first
 told_steps (Some old) (Some mid) None P Q R H has first second follows = absurd second
 told_steps (Some old) (Some mid) (Some new) P Q R H has first second follows = follows old mid new has first second
 
--- what a stop may leave now is what the run left
-pub leaves_now : {D : Type 0} (moment : D → ℕ) (left_since : D → ℕ → List ℕ → Type 0) (may_leave : D → List ℕ → Type 0) (old new : D) (P : List ℕ → Type 0)
-    → ((disk : D) (since : ℕ) (image : List ℕ) → since ≤ moment disk → may_leave disk image → left_since disk since image) → LeavesOnly moment left_since old new P → (image : List ℕ) → may_leave new image → P image
-leaves_now moment left_since may_leave old new P counts_now leaves image left = leaves.each image (counts_now new (moment old) image leaves.later left)
-
-module _ {D : Type 0} (told : D → Option (List ℕ)) (size : D → ℕ) (may_leave : D → List ℕ → Type 0) (moment : D → ℕ) (left_since : D → ℕ → List ℕ → Type 0)
-    (only_now : (disk : D) (image : List ℕ) → left_since disk (moment disk) image → may_leave disk image) where
+module _ {D : Type 0} (g : Ghosts D) (only_now : (disk : D) (image : List ℕ) → g.left_since disk (g.moment disk) image → g.may_leave disk image) where
   -- nothing was called
-  pub untouched_start : (disk : D) → IsUntouched told size may_leave moment left_since disk disk
+  pub untouched_start : (disk : D) → IsUntouched g disk disk
   untouched_start disk = record {
     same_bytes = refl;
     same_size = refl;
     no_more = λ image left. left;
-    leaves = LeavesOnly-start moment left_since disk (may_leave disk) (only_now disk);
+    leaves = LeavesOnly-start g disk (g.may_leave disk) (only_now disk);
   }
 
   -- one call that changed no byte
-  pub untouched_call : (old new : D) → told new ≡ told old → size new ≡ size old → NoMore (may_leave old) (may_leave new) → Elapses (moment old) (moment new) (left_since old) (left_since new) (may_leave new)
-      → IsUntouched told size may_leave moment left_since old new
+  pub untouched_call : (old new : D) → g.told new ≡ g.told old → g.size new ≡ g.size old → NoMore (g.may_leave old) (g.may_leave new) → Elapses (g.moment old) (g.moment new) (g.left_since old) (g.left_since new) (g.may_leave new)
+      → IsUntouched g old new
   untouched_call old new same long no_more time = record {
     same_bytes = same;
     same_size = long;
     no_more = no_more;
-    leaves = LeavesOnly-call moment left_since old old new (may_leave old) (may_leave new) (LeavesOnly-start moment left_since old (may_leave old) (only_now old)) time no_more;
+    leaves = LeavesOnly-call g old old new (g.may_leave old) (g.may_leave new) (LeavesOnly-start g old (g.may_leave old) (only_now old)) time no_more;
   }
 
   -- two runs that changed no byte
-  pub untouched_then : (old mid new : D) → IsUntouched told size may_leave moment left_since old mid → IsUntouched told size may_leave moment left_since mid new
-      → IsUntouched told size may_leave moment left_since old new
+  pub untouched_then : (old mid new : D) → IsUntouched g old mid → IsUntouched g mid new
+      → IsUntouched g old new
   untouched_then old mid new first second = record {
     same_bytes = second.same_bytes ∙ first.same_bytes;
     same_size = second.same_size ∙ first.same_size;
     no_more = λ image left. first.no_more image (second.no_more image left);
-    leaves = LeavesOnly-then moment left_since old mid new (may_leave old) first.leaves (LeavesOnly-weaker moment left_since mid new (may_leave mid) (may_leave old) first.no_more second.leaves);
+    leaves = LeavesOnly-then g old mid new (g.may_leave old) first.leaves (LeavesOnly-weaker g mid new (g.may_leave mid) (g.may_leave old) first.no_more second.leaves);
   }
 
   -- what is synced stays so
-  pub untouched_synced : (old new : D) → IsUntouched told size may_leave moment left_since old new → IsSynced (told old) (may_leave old) → IsSynced (told new) (may_leave new)
-  untouched_synced old new same synced = subst (λ (t : Option (List ℕ)). IsSynced t (may_leave new)) (sym same.same_bytes) (told_weaker (told old) _ _ (λ b only image left. only image (same.no_more image left)) synced)
+  pub untouched_synced : (old new : D) → IsUntouched g old new → IsSynced (g.told old) (g.may_leave old) → IsSynced (g.told new) (g.may_leave new)
+  untouched_synced old new same synced = subst (λ (t : Option (List ℕ)). IsSynced t (g.may_leave new)) (sym same.same_bytes) (told_weaker (g.told old) _ _ (λ b only image left. only image (same.no_more image left)) synced)
 
   -- a run that changed no byte leaves what synced bytes have
-  pub untouched_leaves : (old new : D) (Q : List ℕ → List ℕ → Type 0) → IsUntouched told size may_leave moment left_since old new → IsSynced (told old) (may_leave old) → ((bytes : List ℕ) → Q bytes bytes)
-      → Leaves told moment left_since Q old new
+  pub untouched_leaves : (old new : D) (Q : List ℕ → List ℕ → Type 0) → IsUntouched g old new → IsSynced (g.told old) (g.may_leave old) → ((bytes : List ℕ) → Q bytes bytes)
+      → Leaves g Q old new
   untouched_leaves old new Q same synced has =
-      LeavesOnly-weaker moment left_since old new (may_leave old) (λ image. IfSome (told old) (λ bytes. Q bytes image)) (only_has (told old) (may_leave old) Q synced has) same.leaves
+      LeavesOnly-weaker g old new (g.may_leave old) (λ image. IfSome (g.told old) (λ bytes. Q bytes image)) (only_has (g.told old) (g.may_leave old) Q synced has) same.leaves
 
   -- a write or a cut over synced bytes
-  pub change_leaves : (old new : D) (step : List ℕ → List ℕ → Type 0) → IsSynced (told old) (may_leave old) → ((bytes : List ℕ) → step bytes bytes)
-      → Follows step (may_leave old) (may_leave new) → Elapses (moment old) (moment new) (left_since old) (left_since new) (may_leave new) → Leaves told moment left_since step old new
+  pub change_leaves : (old new : D) (step : List ℕ → List ℕ → Type 0) → IsSynced (g.told old) (g.may_leave old) → ((bytes : List ℕ) → step bytes bytes)
+      → Follows step (g.may_leave old) (g.may_leave new) → Elapses (g.moment old) (g.moment new) (g.left_since old) (g.left_since new) (g.may_leave new) → Leaves g step old new
   change_leaves old new step synced same follows time =
-      LeavesOnly-call moment left_since old old new (λ image. IfSome (told old) (λ bytes. step bytes image)) (may_leave new)
-      (LeavesOnly-start moment left_since old (λ image. IfSome (told old) (λ bytes. step bytes image)) (λ image left. only_has (told old) (may_leave old) step synced same image (only_now old image left))) time
-      (follows_has (told old) (may_leave old) (may_leave new) step step synced follows (λ bytes image has. has))
+      LeavesOnly-call g old old new (λ image. IfSome (g.told old) (λ bytes. step bytes image)) (g.may_leave new)
+      (LeavesOnly-start g old (λ image. IfSome (g.told old) (λ bytes. step bytes image)) (λ image left. only_has (g.told old) (g.may_leave old) step synced same image (only_now old image left))) time
+      (follows_has (g.told old) (g.may_leave old) (g.may_leave new) step step synced follows (λ bytes image has. has))
 
   -- and a sync after it
-  pub sync_leaves : (old mid new : D) (step : List ℕ → List ℕ → Type 0) → IsSynced (told old) (may_leave old) → ((bytes : List ℕ) → step bytes bytes)
-      → Follows step (may_leave old) (may_leave mid) → Elapses (moment old) (moment mid) (left_since old) (left_since mid) (may_leave mid)
-      → NoMore (may_leave mid) (may_leave new) → Elapses (moment mid) (moment new) (left_since mid) (left_since new) (may_leave new) → Leaves told moment left_since step old new
+  pub sync_leaves : (old mid new : D) (step : List ℕ → List ℕ → Type 0) → IsSynced (g.told old) (g.may_leave old) → ((bytes : List ℕ) → step bytes bytes)
+      → Follows step (g.may_leave old) (g.may_leave mid) → Elapses (g.moment old) (g.moment mid) (g.left_since old) (g.left_since mid) (g.may_leave mid)
+      → NoMore (g.may_leave mid) (g.may_leave new) → Elapses (g.moment mid) (g.moment new) (g.left_since mid) (g.left_since new) (g.may_leave new) → Leaves g step old new
   sync_leaves old mid new step synced same follows time no_more later =
-      LeavesOnly-call moment left_since old mid new (λ image. IfSome (told old) (λ bytes. step bytes image)) (may_leave new)
+      LeavesOnly-call g old mid new (λ image. IfSome (g.told old) (λ bytes. step bytes image)) (g.may_leave new)
       (change_leaves old mid step synced same follows time) later
-      (λ image left. follows_has (told old) (may_leave old) (may_leave mid) step step synced follows (λ bytes c has. has) image (no_more image left))
+      (λ image left. follows_has (g.told old) (g.may_leave old) (g.may_leave mid) step step synced follows (λ bytes c has. has) image (no_more image left))
 
   -- two runs, the second over what the first left
-  pub leaves_then : (old mid new : D) (step P Q : List ℕ → List ℕ → Type 0) (H : List ℕ → Type 0) → IfSome (told old) H → Leaves told moment left_since Q old mid → Told step (told old) (told mid)
-      → ((b c image : List ℕ) → H b → step b c → P c image → Q b image) → Leaves told moment left_since P mid new → Leaves told moment left_since Q old new
+  pub leaves_then : (old mid new : D) (step P Q : List ℕ → List ℕ → Type 0) (H : List ℕ → Type 0) → IfSome (g.told old) H → Leaves g Q old mid → Told step (g.told old) (g.told mid)
+      → ((b c image : List ℕ) → H b → step b c → P c image → Q b image) → Leaves g P mid new → Leaves g Q old new
   leaves_then old mid new step P Q H has first over back second =
-      LeavesOnly-then moment left_since old mid new (λ image. IfSome (told old) (λ bytes. Q bytes image)) first
-      (LeavesOnly-weaker moment left_since mid new (λ image. IfSome (told mid) (λ bytes. P bytes image)) (λ image. IfSome (told old) (λ bytes. Q bytes image))
-      (λ image fact. told_back (told old) (told mid) step P Q H image over has (λ b c h s p. back b c image h s p) fact) second)
+      LeavesOnly-then g old mid new (λ image. IfSome (g.told old) (λ bytes. Q bytes image)) first
+      (LeavesOnly-weaker g mid new (λ image. IfSome (g.told mid) (λ bytes. P bytes image)) (λ image. IfSome (g.told old) (λ bytes. Q bytes image))
+      (λ image fact. told_back (g.told old) (g.told mid) step P Q H image over has (λ b c h s p. back b c image h s p) fact) second)
 
   -- what a run leaves has also this
-  pub leaves_weaker : (old new : D) (P Q : List ℕ → List ℕ → Type 0) (H : List ℕ → Type 0) → IfSome (told old) H → ((b image : List ℕ) → H b → P b image → Q b image)
-      → Leaves told moment left_since P old new → Leaves told moment left_since Q old new
+  pub leaves_weaker : (old new : D) (P Q : List ℕ → List ℕ → Type 0) (H : List ℕ → Type 0) → IfSome (g.told old) H → ((b image : List ℕ) → H b → P b image → Q b image)
+      → Leaves g P old new → Leaves g Q old new
   leaves_weaker old new P Q H has weaker leaves =
-      LeavesOnly-weaker moment left_since old new (λ image. IfSome (told old) (λ bytes. P bytes image)) (λ image. IfSome (told old) (λ bytes. Q bytes image))
-      (λ image fact. told_back (told old) (told old) (λ b c. c ≡ b) P Q H image (same_told (told old)) has (λ b c h e p. weaker b image h (subst (λ (x : List ℕ). P x image) e p)) fact) leaves
+      LeavesOnly-weaker g old new (λ image. IfSome (g.told old) (λ bytes. P bytes image)) (λ image. IfSome (g.told old) (λ bytes. Q bytes image))
+      (λ image fact. told_back (g.told old) (g.told old) (λ b c. c ≡ b) P Q H image (same_told (g.told old)) has (λ b c h e p. weaker b image h (subst (λ (x : List ℕ). P x image) e p)) fact) leaves
 
   -- a disk that is remade in another way
-  pub remade_weaker : (old new : D) (P Q : List ℕ → List ℕ → Type 0) → ((b image : List ℕ) → P b image → Q b image) → IsRemade told may_leave moment left_since P old new → IsRemade told may_leave moment left_since Q old new
+  pub remade_weaker : (old new : D) (P Q : List ℕ → List ℕ → Type 0) → ((b image : List ℕ) → P b image → Q b image) → IsRemade g P old new → IsRemade g Q old new
   remade_weaker old new P Q weaker remade = record {
     synced = remade.synced;
     same_bytes = remade.same_bytes;
     until = remade.until;
-    since = LeavesOnly-weaker moment left_since remade.synced new (λ image. IfSome (told remade.synced) (λ bytes. P bytes image)) (λ image. IfSome (told remade.synced) (λ bytes. Q bytes image))
-        (λ image fact. told_weaker (told remade.synced) (λ b. P b image) (λ b. Q b image) (λ b p. weaker b image p) fact) remade.since;
+    since = LeavesOnly-weaker g remade.synced new (λ image. IfSome (g.told remade.synced) (λ bytes. P bytes image)) (λ image. IfSome (g.told remade.synced) (λ bytes. Q bytes image))
+        (λ image fact. told_weaker (g.told remade.synced) (λ b. P b image) (λ b. Q b image) (λ b p. weaker b image p) fact) remade.since;
   }
 
-  pub remade_or_still_weaker : (old new : D) (P Q : List ℕ → List ℕ → Type 0) → ((b image : List ℕ) → P b image → Q b image) → IsRemadeOrStill told may_leave moment left_since P old new → IsRemadeOrStill told may_leave moment left_since Q old new
+  pub remade_or_still_weaker : (old new : D) (P Q : List ℕ → List ℕ → Type 0) → ((b image : List ℕ) → P b image → Q b image) → IsRemadeOrStill g P old new → IsRemadeOrStill g Q old new
   remade_or_still_weaker old new P Q weaker (inl still) = inl still
   remade_or_still_weaker old new P Q weaker (inr remade) = inr (remade_weaker old new P Q weaker remade)
 
   -- nothing was called
-  pub still_start : (disk : D) (step : List ℕ → List ℕ → Type 0) → IsRemadeOrStill told may_leave moment left_since step disk disk
-  still_start disk step = inl (LeavesOnly-start moment left_since disk (may_leave disk) (only_now disk))
+  pub still_start : (disk : D) (step : List ℕ → List ℕ → Type 0) → IsRemadeOrStill g step disk disk
+  still_start disk step = inl (LeavesOnly-start g disk (g.may_leave disk) (only_now disk))
+
+  -- a disk that was remade, and then a run over what that left
+  pub remade_then : (old mid new : D) (step P Q R : List ℕ → List ℕ → Type 0) (H : List ℕ → Type 0) → IfSome (g.told old) H → IsRemade g P old mid → Told step (g.told old) (g.told mid)
+      → ((b image : List ℕ) → P b image → R b image) → ((b c image : List ℕ) → H b → step b c → Q c image → R b image) → Leaves g Q mid new → IsRemade g R old new
+  remade_then old mid new step P Q R H has remade over weaker back second = record {
+    synced = remade.synced;
+    same_bytes = remade.same_bytes;
+    until = remade.until;
+    since = leaves_then remade.synced mid new step Q R H (subst (λ (t : Option (List ℕ)). IfSome t H) (sym remade.same_bytes) has)
+        (leaves_weaker remade.synced mid P R H (subst (λ (t : Option (List ℕ)). IfSome t H) (sym remade.same_bytes) has) (λ b image h p. weaker b image p) remade.since) (subst (λ (t : Option (List ℕ)). Told step t (g.told mid)) (sym remade.same_bytes) over) back second;
+  }
+
+  -- a run over a disk that was synced
+  pub remade_from : (old synced new : D) (step : List ℕ → List ℕ → Type 0) → IsUntouched g old synced → Leaves g step synced new → IsRemade g step old new
+  remade_from old synced new step same since = record { synced = synced; same_bytes = same.same_bytes; until = same.leaves; since = since }

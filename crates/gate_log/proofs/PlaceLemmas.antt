@@ -7,7 +7,7 @@ use Rattle.byteorder.specs.Endian.{big_bytes}
 use Rattle.byteorder.specs.Numbers.{length-bytes_high_first}
 use Rattle.gno_disk.specs.Disk.{Overwrites}
 use Rattle.gate_log.specs.Records.{Holds, log_bytes, record_bytes}
-use Rattle.gate_log.specs.Places.{body_at, bodies_at, Spans, IsWritten, IsClosed}
+use Rattle.gate_log.specs.Places.{body_at, bodies_at, Spans, AreWritten, IsClosed}
 use Rattle.gate_log.specs.declared.place.Place.{Place}
 
 -- a span doesn't end before it begins
@@ -49,12 +49,12 @@ bodies_at-same (place ∷ places) from to old new spans same =
     ap (λ (body : List ℕ). body ∷ bodies_at places new) first ∙ ap (λ (bodies : List (List ℕ)). body_at old place ∷ bodies) rest
 
 -- what is written stays where the bytes up to the end do
-pub IsWritten-same : (places : List Place) (end : ℕ) (old new : List ℕ) → Spans places 0 end → take end new ≡ take end old → IsWritten places end old → IsWritten places end new
-IsWritten-same places end old new spans same written =
+pub AreWritten-same : (places : List Place) (end : ℕ) (old new : List ℕ) → Spans places 0 end → take end new ≡ take end old → AreWritten places end old → AreWritten places end new
+AreWritten-same places end old new spans same written =
     same ∙ written ∙ ap log_bytes (sym (bodies_at-same places 0 end old new spans same))
 
 -- where the bytes hold records and a closed gate behind them
-pub Holds-from_written : (places : List Place) (end : ℕ) (bytes : List ℕ) → end < length bytes → IsWritten places end bytes → IsClosed end bytes → Holds bytes (bodies_at places bytes)
+pub Holds-from_written : (places : List Place) (end : ℕ) (bytes : List ℕ) → end < length bytes → AreWritten places end bytes → IsClosed end bytes → Holds bytes (bodies_at places bytes)
 Holds-from_written places end bytes inside written closed = record {
   gate = get_or bytes end 0;
   rest = drop (end + 1) bytes;
@@ -66,7 +66,7 @@ Holds-from_written places end bytes inside written closed = record {
 
 -- A record behind the end: its gate, what stands behind the gate, and a closed gate.
 module _ (places : List Place) (end : ℕ) (old new body : List ℕ) (spans : Spans places 0 end) (inside : end < length old)
-    (written : IsWritten places end old)
+    (written : AreWritten places end old)
     (over : Overwrites end (1 ∷ (big_bytes 8 (length body) ++ body ++ 0 ∷ [])) old new) where
   place : Place
   place = record { at = end + 9; len = length body }
@@ -125,7 +125,7 @@ module _ (places : List Place) (end : ℕ) (old new body : List ℕ) (spans : Sp
   log_bytes_push : log_bytes (bodies_at places old ++ body ∷ []) ≡ log_bytes (bodies_at places old) ++ record_bytes body
   log_bytes_push = sym (flat_map_more record_bytes [] (bodies_at places old) body)
 
-  pub new_written : IsWritten (places ++ (record { at = end + 9; len = length body }) ∷ []) (end + 9 + length body) new
+  pub new_written : AreWritten (places ++ (record { at = end + 9; len = length body }) ∷ []) (end + 9 + length body) new
   unfolding head
   new_written =
       front_of_new ∙ ap (λ (front : List ℕ). front ++ (head ++ body)) written ∙ sym log_bytes_push ∙ ap log_bytes (sym new_bodies)
@@ -148,7 +148,7 @@ module _ (places : List Place) (end : ℕ) (old new body : List ℕ) (spans : Sp
   }
 
 -- behind a closed gate a record doesn't count
-closed_holds : (places : List Place) (end byte : ℕ) (frame old new : List ℕ) → IsWritten places end old → byte ≢ 1 → Overwrites end (byte ∷ frame) old new → Holds new (bodies_at places old)
+closed_holds : (places : List Place) (end byte : ℕ) (frame old new : List ℕ) → AreWritten places end old → byte ≢ 1 → Overwrites end (byte ∷ frame) old new → Holds new (bodies_at places old)
 closed_holds places end byte frame old new written closed over = record {
   gate = byte;
   rest = frame ++ drop (end + length (byte ∷ frame)) old;
@@ -159,7 +159,7 @@ closed_holds places end byte frame old new written closed over = record {
 }
 
 -- as long as the gate stays, the records are those before it
-before_holds : (places : List Place) (end : ℕ) (old new : List ℕ) → IsWritten places end old → IsClosed end old → end < length old → KeepsBefore (end + 1) old new → Holds new (bodies_at places old)
+before_holds : (places : List Place) (end : ℕ) (old new : List ℕ) → AreWritten places end old → IsClosed end old → end < length old → KeepsBefore (end + 1) old new → Holds new (bodies_at places old)
 before_holds places end old new written closed inside same = record {
   gate = get_or old end 0;
   rest = drop (end + 1) new;
@@ -171,7 +171,7 @@ before_holds places end old new written closed inside same = record {
 }
 
 -- a record in part is the records as they were, or with it
-pub part_holds : (places : List Place) (end : ℕ) (frame old new body : List ℕ) → Spans places 0 end → IsWritten places end old → IsClosed end old → end < length old → frame ≡ big_bytes 8 (length body) ++ body ++ 0 ∷ []
+pub part_holds : (places : List Place) (end : ℕ) (frame old new body : List ℕ) → Spans places 0 end → AreWritten places end old → IsClosed end old → end < length old → frame ≡ big_bytes 8 (length body) ++ body ++ 0 ∷ []
     → PartOf end frame old new → Holds new (bodies_at places old) ⊎ Holds new (bodies_at places old ++ body ∷ [])
 part_holds places end frame old new body spans written closed inside framed (inl kept) = inl (before_holds places end old new written closed inside kept)
 part_holds places end frame old new body spans written closed inside framed (inr (byte, over)) = elim (cases_eq byte 1) [

@@ -1,8 +1,9 @@
 // The device calls of a log.
 ghost use Rattle.std.specs.Prelude.{ℕ, List, ◌≡◌, ◌⊎◌, ◌<◌, ◌≤◌, ◌+◌, ◌^◌, ◌∷◌, [], max, length, vec_len, take, drop, slice_index, ⊤, true, false, IfOk, IfSome, OnOk, OnErr};
 ghost use Rattle.gno_num.specs.Faults.{Rose};
-ghost use Rattle.gno_disk.specs.Disk.{Overwrites, Torn, LooseCut, Told, LeavesOnly};
-ghost use Rattle.gate_log.specs.Steps.{KeepsBefore, IsReady, IsNoLog, IsSynced, PartOf, OldOrNone, IsFirst, Leaves, IsUntouched, IsRemade, IsRemadeOrStill};
+ghost use Rattle.gno_disk.specs.Disk.{Overwrites, Torn, LooseCut, Told};
+ghost use Rattle.gno_disk.specs.Moments.{LeavesOnly};
+ghost use Rattle.gate_log.specs.Steps.{KeepsBefore, IsReady, IsShut, IsSynced, PartOf, OldOrNone, OldOrNoneOr, StandsFirst, Leaves, IsUntouched, IsRemade, IsRemadeOrStill};
 
 use crate::frame::{CLOSED, OPEN};
 use gno_disk::Disk;
@@ -18,9 +19,10 @@ fn write_through<D: Disk>(disk: &mut D, at: u64, bytes: &[u8]) -> Result<(), Fai
     ensures durable { OnOk result (IsSynced (D.told disk.new) (D.may_leave disk.new)) }
     ensures torn { OnErr result (Told (KeepsBefore at) (D.told disk.old) (D.told disk.new)) }
     ensures part { Told (Torn at (length bytes.now)) (D.told disk.old) (D.told disk.new) }
-    ensures any_moment { Leaves D.told D.moment D.left_since (Torn at (length bytes.now)) disk.old disk.new }
-    ensures later { D.faults disk.old ≤ D.faults disk.new }
+    ensures any_moment { Leaves D.Disk (Torn at (length bytes.now)) disk.old disk.new }
     ensures cause { OnErr result (Rose (D.faults disk.old) (D.faults disk.new)) }
+    ensures later { D.faults disk.old ≤ D.faults disk.new }
+    ensures came { D.came 2 disk.old disk.new }
 {
     disk.write_at(at, bytes)?;
     disk.sync()
@@ -34,10 +36,10 @@ fn cut_through<D: Disk>(disk: &mut D, to: u64) -> Result<(), Failed>
     ensures cut { OnOk result (Told (λ old new. new ≡ take to old) (D.told disk.old) (D.told disk.new)) }
     ensures size { OnOk result (D.size disk.new ≡ to) }
     ensures durable { OnOk result (IsSynced (D.told disk.new) (D.may_leave disk.new)) }
-    ensures told { OnErr result (Told (λ _ _. ⊤) (D.told disk.old) (D.told disk.new)) }
-    ensures any_moment { Leaves D.told D.moment D.left_since (LooseCut to) disk.old disk.new }
-    ensures later { D.faults disk.old ≤ D.faults disk.new }
+    ensures any_moment { Leaves D.Disk (LooseCut to) disk.old disk.new }
     ensures cause { OnErr result (Rose (D.faults disk.old) (D.faults disk.new)) }
+    ensures later { D.faults disk.old ≤ D.faults disk.new }
+    ensures came { D.came 2 disk.old disk.new }
 {
     disk.cut(to)?;
     disk.sync()
@@ -56,26 +58,42 @@ pub fn write_record<D: Disk>(disk: &mut D, gate: u64, frame: &[u8]) -> Result<()
     ensures durable { OnOk result (IsSynced (D.told disk.new) (D.may_leave disk.new)) }
     ensures torn { OnErr result (Told (KeepsBefore gate) (D.told disk.old) (D.told disk.new)) }
     ensures part { Told (PartOf gate frame.now) (D.told disk.old) (D.told disk.new) }
-    ensures any_moment { Leaves D.told D.moment D.left_since (PartOf gate frame.now) disk.old disk.new }
-    ensures later { D.faults disk.old ≤ D.faults disk.new }
+    ensures any_moment { Leaves D.Disk (PartOf gate frame.now) disk.old disk.new }
     ensures cause { OnErr result (Rose (D.faults disk.old) (D.faults disk.new)) }
+    ensures later { D.faults disk.old ≤ D.faults disk.new }
+    ensures came { D.came 4 disk.old disk.new }
 {
     write_through(disk, gate + 1, frame)?;
     write_through(disk, gate, &[OPEN])
 }
 
-/// Leaves one closed gate on the disk and nothing else. Until the end a stop leaves what was there,
-/// or no record.
-fn make_ready<D: Disk>(disk: &mut D) -> Result<(), Failed>
+/// Makes a disk ready: syncs it, and leaves one closed gate on it and nothing else. Once the sync has
+/// succeeded, a stop leaves what was there, or no log.
+pub fn make_ready<D: Disk>(disk: &mut D) -> Result<(), Failed>
+    ensures ready { OnOk result (Told (λ _ new. IsReady new) (D.told disk.old) (D.told disk.new)) }
+    ensures size { OnOk result (D.size disk.new ≡ 1) }
+    ensures durable { OnOk result (IsSynced (D.told disk.new) (D.may_leave disk.new)) }
+    ensures remade { OnOk result (IsRemade D.Disk OldOrNone disk.old disk.new) }
+    ensures any_moment { IsRemadeOrStill D.Disk OldOrNone disk.old disk.new }
+    ensures cause { OnErr result (Rose (D.faults disk.old) (D.faults disk.new)) }
+    ensures later { D.faults disk.old ≤ D.faults disk.new }
+    ensures came { D.came 5 disk.old disk.new }
+{
+    sync_all(disk)?;
+    leave_one_gate(disk)
+}
+
+// Leaves one closed gate on a disk whose bytes are synced. Until the end a stop leaves what was
+// there, or no log.
+fn leave_one_gate<D: Disk>(disk: &mut D) -> Result<(), Failed>
     requires { IsSynced (D.told disk.old) (D.may_leave disk.old) }
     ensures ready { OnOk result (Told (λ _ new. IsReady new) (D.told disk.old) (D.told disk.new)) }
     ensures size { OnOk result (D.size disk.new ≡ 1) }
     ensures durable { OnOk result (IsSynced (D.told disk.new) (D.may_leave disk.new)) }
-    ensures told { OnErr result (Told (λ _ _. ⊤) (D.told disk.old) (D.told disk.new)) }
-    ensures any_moment { Leaves D.told D.moment D.left_since
-        OldOrNone disk.old disk.new }
-    ensures later { D.faults disk.old ≤ D.faults disk.new }
+    ensures any_moment { Leaves D.Disk OldOrNone disk.old disk.new }
     ensures cause { OnErr result (Rose (D.faults disk.old) (D.faults disk.new)) }
+    ensures later { D.faults disk.old ≤ D.faults disk.new }
+    ensures came { D.came 4 disk.old disk.new }
 {
     close_first_gate(disk)?;
     if disk.len() > 1 {
@@ -87,14 +105,13 @@ fn make_ready<D: Disk>(disk: &mut D) -> Result<(), Failed>
 // Closes the first gate, unless it is closed: a write would make it loose.
 fn close_first_gate<D: Disk>(disk: &mut D) -> Result<(), Failed>
     requires { IsSynced (D.told disk.old) (D.may_leave disk.old) }
-    ensures closed { OnOk result (Told (λ _ new. IsNoLog new) (D.told disk.old) (D.told disk.new)) }
+    ensures closed { OnOk result (Told (λ _ new. IsShut new) (D.told disk.old) (D.told disk.new)) }
     ensures some { OnOk result (0 < D.size disk.new) }
     ensures durable { OnOk result (IsSynced (D.told disk.new) (D.may_leave disk.new)) }
-    ensures told { OnErr result (Told (λ _ _. ⊤) (D.told disk.old) (D.told disk.new)) }
-    ensures any_moment { Leaves D.told D.moment D.left_since
-        OldOrNone disk.old disk.new }
-    ensures later { D.faults disk.old ≤ D.faults disk.new }
+    ensures any_moment { Leaves D.Disk OldOrNone disk.old disk.new }
     ensures cause { OnErr result (Rose (D.faults disk.old) (D.faults disk.new)) }
+    ensures later { D.faults disk.old ≤ D.faults disk.new }
+    ensures came { D.came 2 disk.old disk.new }
 {
     if !lacks_closed_gate(disk)? {
         return Ok(());
@@ -106,11 +123,12 @@ fn close_first_gate<D: Disk>(disk: &mut D) -> Result<(), Failed>
 fn lacks_closed_gate<D: Disk>(disk: &mut D) -> Result<bool, Failed>
     ensures lacks { IfOk result (λ lacks. lacks ≡ true → IfSome (D.told disk.old)
         (λ bytes. (length bytes ≡ 0) ⊎ (slice_index bytes 0 ≡ 1))) }
-    ensures closed { IfOk result (λ lacks. lacks ≡ false → IfSome (D.told disk.old) IsNoLog) }
+    ensures closed { IfOk result (λ lacks. lacks ≡ false → IfSome (D.told disk.old) IsShut) }
     ensures some { IfOk result (λ lacks. lacks ≡ false → 0 < D.size disk.old) }
-    ensures untouched { IsUntouched D.told D.size D.may_leave D.moment D.left_since disk.old disk.new }
-    ensures later { D.faults disk.old ≤ D.faults disk.new }
+    ensures untouched { IsUntouched D.Disk disk.old disk.new }
     ensures cause { OnErr result (Rose (D.faults disk.old) (D.faults disk.new)) }
+    ensures later { D.faults disk.old ≤ D.faults disk.new }
+    ensures came { D.came 0 disk.old disk.new }
 {
     if disk.len() == 0 {
         return Ok(true);
@@ -121,9 +139,10 @@ fn lacks_closed_gate<D: Disk>(disk: &mut D) -> Result<bool, Failed>
 fn first_byte<D: Disk>(disk: &mut D) -> Result<u8, Failed>
     requires { 0 < D.size disk.old }
     ensures byte { IfOk result (λ byte. IfSome (D.told disk.old) (λ bytes. byte ≡ slice_index bytes 0)) }
-    ensures untouched { IsUntouched D.told D.size D.may_leave D.moment D.left_since disk.old disk.new }
-    ensures later { D.faults disk.old ≤ D.faults disk.new }
+    ensures untouched { IsUntouched D.Disk disk.old disk.new }
     ensures cause { OnErr result (Rose (D.faults disk.old) (D.faults disk.new)) }
+    ensures later { D.faults disk.old ≤ D.faults disk.new }
+    ensures came { D.came 0 disk.old disk.new }
 {
     let mut byte = [0u8; 1];
     read_bytes(disk, 0, &mut byte)?;
@@ -135,9 +154,10 @@ pub fn read_bytes<D: Disk>(disk: &mut D, at: u64, out: &mut [u8]) -> Result<(), 
     requires { at + length out.old ≤ D.size disk.old }
     ensures bytes { OnOk result (IfSome (D.told disk.old)
         (λ bytes. out.new ≡ take (length out.old) (drop at bytes))) }
-    ensures untouched { IsUntouched D.told D.size D.may_leave D.moment D.left_since disk.old disk.new }
-    ensures later { D.faults disk.old ≤ D.faults disk.new }
+    ensures untouched { IsUntouched D.Disk disk.old disk.new }
     ensures cause { OnErr result (Rose (D.faults disk.old) (D.faults disk.new)) }
+    ensures later { D.faults disk.old ≤ D.faults disk.new }
+    ensures came { D.came 0 disk.old disk.new }
 {
     disk.read(at, out)
 }
@@ -145,9 +165,10 @@ pub fn read_bytes<D: Disk>(disk: &mut D, at: u64, out: &mut [u8]) -> Result<(), 
 /// Syncs.
 pub fn sync_all<D: Disk>(disk: &mut D) -> Result<(), Failed>
     ensures durable { OnOk result (IsSynced (D.told disk.new) (D.may_leave disk.new)) }
-    ensures untouched { IsUntouched D.told D.size D.may_leave D.moment D.left_since disk.old disk.new }
-    ensures later { D.faults disk.old ≤ D.faults disk.new }
+    ensures untouched { IsUntouched D.Disk disk.old disk.new }
     ensures cause { OnErr result (Rose (D.faults disk.old) (D.faults disk.new)) }
+    ensures later { D.faults disk.old ≤ D.faults disk.new }
+    ensures came { D.came 1 disk.old disk.new }
 {
     disk.sync()
 }
@@ -157,47 +178,29 @@ pub fn read_body<D: Disk>(disk: &mut D, at: u64, body: &mut Vec<u8>) -> Result<(
     requires { at + vec_len body.old ≤ D.size disk.old }
     ensures bytes { OnOk result (IfSome (D.told disk.old)
         (λ bytes. body.new.items ≡ take (vec_len body.old) (drop at bytes))) }
-    ensures untouched { IsUntouched D.told D.size D.may_leave D.moment D.left_since disk.old disk.new }
-    ensures later { D.faults disk.old ≤ D.faults disk.new }
+    ensures len { vec_len body.new ≡ vec_len body.old }
+    ensures untouched { IsUntouched D.Disk disk.old disk.new }
     ensures cause { OnErr result (Rose (D.faults disk.old) (D.faults disk.new)) }
+    ensures later { D.faults disk.old ≤ D.faults disk.new }
+    ensures came { D.came 0 disk.old disk.new }
 {
     read_bytes(disk, at, body)
 }
 
-/// Makes a disk ready whose bytes are synced, and writes its first record.
-fn write_first<D: Disk>(disk: &mut D, frame: &[u8]) -> Result<(), Failed>
-    requires { IsSynced (D.told disk.old) (D.may_leave disk.old) }
+/// Makes a disk ready, writes what stands behind its first gate, and once that is on the disk opens
+/// the gate.
+pub fn start<D: Disk>(disk: &mut D, frame: &[u8]) -> Result<(), Failed>
     ensures written { OnOk result
-        (Told (λ _ new. IsFirst frame.now new) (D.told disk.old) (D.told disk.new)) }
+        (Told (λ _ new. StandsFirst frame.now new) (D.told disk.old) (D.told disk.new)) }
     ensures inside { OnOk result (1 + length frame.now ≤ D.size disk.new) }
     ensures limit { OnOk result (1 + length frame.now ≤ 2 ^ 60) }
     ensures durable { OnOk result (IsSynced (D.told disk.new) (D.may_leave disk.new)) }
-    ensures told { OnErr result (Told (λ _ _. ⊤) (D.told disk.old) (D.told disk.new)) }
-    ensures any_moment { Leaves D.told D.moment D.left_since
-        (λ old image. OldOrNone old image ⊎ IsFirst frame.now image) disk.old disk.new }
-    ensures later { D.faults disk.old ≤ D.faults disk.new }
+    ensures remade { OnOk result (IsRemade D.Disk (OldOrNoneOr frame.now) disk.old disk.new) }
+    ensures any_moment { IsRemadeOrStill D.Disk (OldOrNoneOr frame.now) disk.old disk.new }
     ensures cause { OnErr result (Rose (D.faults disk.old) (D.faults disk.new)) }
+    ensures later { D.faults disk.old ≤ D.faults disk.new }
+    ensures came { D.came 9 disk.old disk.new }
 {
     make_ready(disk)?;
     write_record(disk, 0, frame)
-}
-
-/// Syncs a disk, makes it ready and writes its first record.
-pub fn start<D: Disk>(disk: &mut D, frame: &[u8]) -> Result<(), Failed>
-    ensures written { OnOk result
-        (Told (λ _ new. IsFirst frame.now new) (D.told disk.old) (D.told disk.new)) }
-    ensures inside { OnOk result (1 + length frame.now ≤ D.size disk.new) }
-    ensures limit { OnOk result (1 + length frame.now ≤ 2 ^ 60) }
-    ensures durable { OnOk result (IsSynced (D.told disk.new) (D.may_leave disk.new)) }
-    ensures told { OnErr result (Told (λ _ _. ⊤) (D.told disk.old) (D.told disk.new)) }
-    ensures remade { OnOk result (IsRemade D.told D.may_leave D.moment D.left_since
-        (λ old image. OldOrNone old image ⊎ IsFirst frame.now image) disk.old disk.new) }
-    ensures any_moment { IsRemadeOrStill D.told D.may_leave D.moment D.left_since
-        (λ old image. OldOrNone old image ⊎ IsFirst frame.now image) disk.old disk.new }
-    ensures later { D.faults disk.old ≤ D.faults disk.new }
-    ensures cause { OnErr result (Rose (D.faults disk.old) (D.faults disk.new)) }
-{
-    sync_all(disk)?;
-    write_first(disk, frame)?;
-    Ok(())
 }

@@ -2,7 +2,7 @@
 ghost use Rattle.std.specs.Prelude.{◌≡◌};
 
 use gno_num::Failed as DiskFailed;
-use std::alloc::AllocFailed;
+use std::alloc::{AllocError, AllocFailed};
 
 /// Why the records weren't found.
 #[derive(Clone, Copy, Debug, PartialEq, Eq)]
@@ -22,6 +22,16 @@ impl From<DiskFailed> for Stop {
 
     fn from(_: DiskFailed) -> Self {
         Stop::Failed
+    }
+}
+
+impl From<AllocError> for Stop {
+    ghost use Rattle.gate_log.specs.declared.scan.Stop.TheVariants.{NoMemory};
+
+    ghost from_gives = { λ _ e. e ≡ NoMemory };
+
+    fn from(_: AllocError) -> Self {
+        Stop::NoMemory
     }
 }
 

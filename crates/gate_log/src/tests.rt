@@ -1,6 +1,6 @@
 ghost use Rattle.std.specs.Prelude.{◌≡◌, ◌≤◌, ◌^◌, false, length, IfOk};
 
-use crate::{Log, LogFault, MountFault, first_record};
+use crate::{Log, LogFault, MountFault, damage_has_one_place, first_record, make_ready};
 use gno_disk::MemDisk;
 use gno_num::{Damaged, DiskFault};
 use std::alloc::Global;
@@ -242,5 +242,46 @@ fn the_first_record_is_found_where_it_is_whole(rt: HostRuntime) -> Result<(), Fa
         first_record(alloc, &mut failing),
         Err(LogFault::DiskFault(fault))
     );
+    Ok(())
+}
+
+fn two_more(alloc: Global) -> Result<Vec<Vec<u8>>, Fail> {
+    let mut records = Vec::new(alloc);
+    records.push(Vec::from_slice(alloc, &[7])?)?;
+    records.push(Vec::new(alloc))?;
+    Ok(records)
+}
+
+#[test]
+fn a_log_is_made_of_many_records(rt: HostRuntime) -> Result<(), Fail> {
+    let alloc = rt.alloc();
+    let rest = two_more(alloc)?;
+    let log = match Log::create_with(alloc, disk(alloc, &[1, 3, 4], &[])?, &HEADER, &rest) {
+        Ok(log) => log,
+        Err((_, fault)) => return Err(fault.into()),
+    };
+    assert_eq!(rt; log.count(), 3);
+    let mut found = mounted(alloc, log.into_disk())?;
+    assert_eq!(rt; found.count(), 3);
+    assert_eq!(rt; found.read(alloc, 1)?.as_slice(), [7].as_slice());
+    Ok(())
+}
+
+fn is_send<T: Send + Drop>(_value: T) {}
+
+#[test]
+fn a_log_is_made_anew_and_sent(rt: HostRuntime) -> Result<(), Fail> {
+    let alloc = rt.alloc();
+    let mut log = Log::unmounted(alloc, disk(alloc, &[1, 3, 4], &[])?);
+    log.reserve_anew(3, 19)?;
+    log.make_anew(&HEADER, &two_more(alloc)?)?;
+    assert_eq!(rt; log.append(&[8])?, 3);
+    assert_eq!(rt; log.read(alloc, 0)?.as_slice(), HEADER.as_slice());
+    let mut other = disk(alloc, &[1, 3, 4], &[])?;
+    assert_eq!(rt; make_ready(&mut other), Ok(()));
+    assert_eq!(rt; other.bytes(), [0].as_slice());
+    damage_has_one_place(&[1, 3, 4]);
+    is_send(other);
+    is_send(log);
     Ok(())
 }

@@ -3,7 +3,7 @@ use Rattle.std.proofs.Common.{◌≡◌, ◌⊎◌, ℕ, ◌+◌, ◌-◌, ◌<�
 use Rattle.std.proofs.lemmas.List.{map_push, get_or_append_left, get_or-append_right, get_or-take, get_or-drop}
 use Rattle.gno_disk.specs.Disk.{Overwrites, Torn, LooseCut, Follows, NoMore, Only}
 use Rattle.gno_disk.specs.Memory.{Step, wrote, cut_to, synced}
-use Rattle.gno_disk.specs.Images.{Range, State, fresh, after, after_all, IsImage, MayLeave}
+use Rattle.gno_disk.specs.Images.{Range, State, fresh, after_step, after_all, IsImage, MayLeave}
 use Rattle.gno_disk.specs.Inside.{range_of}
 use Rattle.gno_disk.specs.declared.since.Span.{Span}
 use Rattle.gno_disk.proofs.ImageLemmas.{torn_back, cut_back, image_itself, image_only}
@@ -34,19 +34,19 @@ overwrites_outside at bytes old new k over inside within (inr le) =
 
 module _ (first next : List ℕ) (old new : List Step) (step : Step) (s : State)
     (same : next ≡ first) (made : new ≡ old ++ step ∷ []) (tracked : after_all (fresh first) old ≡ s) where
-  pub tracked_next : after_all (fresh next) new ≡ after s step
+  pub tracked_next : after_all (fresh next) new ≡ after_step s step
   tracked_next =
       ap (λ (f : List ℕ). after_all (fresh f) new) same ∙ ap (λ (steps : List Step). after_all (fresh first) steps) made
-      ∙ after_all-push (fresh first) old step ∙ ap (λ (t : State). after t step) tracked
+      ∙ after_all-push (fresh first) old step ∙ ap (λ (t : State). after_step t step) tracked
 
   pub was_image : (image : List ℕ) → IsImage s image → MayLeave first old image
   was_image image is_image = subst (λ (t : State). IsImage t image) (sym tracked) is_image
 
-  pub now_image : (image : List ℕ) → MayLeave next new image → IsImage (after s step) image
+  pub now_image : (image : List ℕ) → MayLeave next new image → IsImage (after_step s step) image
   now_image image left = subst (λ (t : State). IsImage t image) tracked_next left
 
 -- a call that changes no state
-pub still_NoMore : (first next : List ℕ) (old new : List Step) (step : Step) (s : State) → next ≡ first → new ≡ old ++ step ∷ [] → after_all (fresh first) old ≡ s → after s step ≡ s
+pub still_NoMore : (first next : List ℕ) (old new : List Step) (step : Step) (s : State) → next ≡ first → new ≡ old ++ step ∷ [] → after_all (fresh first) old ≡ s → after_step s step ≡ s
     → NoMore (MayLeave first old) (MayLeave next new)
 still_NoMore first next old new step s same made tracked still = λ image left.
     was_image first next old new step s same made tracked image (subst (λ (t : State). IsImage t image) still (now_image first next old new step s same made tracked image left))
@@ -56,14 +56,14 @@ module _ (first next : List ℕ) (old new : List Step) (s : State) (same : next 
   pub write_Follows : (at : ℕ) (bytes : List ℕ) → at ≤ length s.bytes → new ≡ old ++ wrote at bytes false ∷ [] → Follows (Torn at (length bytes)) (MayLeave first old) (MayLeave next new)
   write_Follows at bytes inside made = λ image left.
       let step = wrote at bytes false in
-      let back = torn_back s (after s step) at (length bytes) image (now_image first next old new step s same made tracked image left) inside low high refl (omega arith) refl
+      let back = torn_back s (after_step s step) at (length bytes) image (now_image first next old new step s same made tracked image left) inside low high refl (omega arith) refl
       (λ k out below. overwrites_outside at bytes s.bytes _ k refl inside (omega arith) out) in
       (back.0, was_image first next old new step s same made tracked back.0 back.1, back.2)
 
   pub fail_write_Follows : (at : ℕ) (bytes : List ℕ) → at ≤ length s.bytes → new ≡ old ++ wrote at bytes true ∷ [] → Follows (Torn at (length bytes)) (MayLeave first old) (MayLeave next new)
   fail_write_Follows at bytes inside made = λ image left.
       let step = wrote at bytes true in
-      let back = torn_back s (after s step) at (length bytes) image (now_image first next old new step s same made tracked image left) inside low high refl (omega arith) refl (λ k out below. refl) in
+      let back = torn_back s (after_step s step) at (length bytes) image (now_image first next old new step s same made tracked image left) inside low high refl (omega arith) refl (λ k out below. refl) in
       (back.0, was_image first next old new step s same made tracked back.0 back.1, back.2)
 
   pub cut_Follows : (to : ℕ) → to ≤ length s.bytes → new ≡ old ++ cut_to to false ∷ [] → Follows (LooseCut to) (MayLeave first old) (MayLeave next new)
@@ -91,8 +91,8 @@ module _ (bytes : List ℕ) (least greatest : ℕ) (spans next_spans : List Span
   ranges_are = sym (ap (λ (l : List Span). map range_of l) next_is ∙ map_push range_of spans (record { at = at; len = length written }))
 
   pub written_state : (next : List ℕ) (high : ℕ) → Overwrites at written bytes next → high ≡ max greatest (at + length written)
-      → after (record { bytes = bytes; least = least; greatest = greatest; ranges = map range_of spans }) (wrote at written false) ≡ record { bytes = next; least = least; greatest = high; ranges = map range_of next_spans }
+      → after_step (record { bytes = bytes; least = least; greatest = greatest; ranges = map range_of spans }) (wrote at written false) ≡ record { bytes = next; least = least; greatest = high; ranges = map range_of next_spans }
   written_state next high over high_is = state_same _ _ _ _ _ _ _ _ (sym over) refl (sym high_is) ranges_are
 
-  pub failed_state : after (record { bytes = bytes; least = least; greatest = greatest; ranges = map range_of spans }) (wrote at written true) ≡ record { bytes = bytes; least = least; greatest = greatest; ranges = map range_of next_spans }
+  pub failed_state : after_step (record { bytes = bytes; least = least; greatest = greatest; ranges = map range_of spans }) (wrote at written true) ≡ record { bytes = bytes; least = least; greatest = greatest; ranges = map range_of next_spans }
   failed_state = state_same _ _ _ _ _ _ _ _ refl refl refl ranges_are

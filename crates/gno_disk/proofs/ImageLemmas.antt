@@ -8,7 +8,7 @@ use Rattle.std.proofs.lemmas.List.Folds.{list_any-append}
 use Rattle.std.proofs.lemmas.List.FromFn.{length-map-range_with_len, get_or-map-range_with_len}
 use Rattle.gno_disk.specs.Disk.{Torn, LooseCut}
 use Rattle.gno_disk.specs.Memory.{cut_to}
-use Rattle.gno_disk.specs.Images.{Range, State, fresh, after, covers, is_loose, IsImage}
+use Rattle.gno_disk.specs.Images.{Range, State, fresh, after_step, covers, is_loose, IsImage}
 
 covers-before : (place at len : ℕ) → place < at → covers place (record { at = at; len = len }) ≡ false
 covers-before place at len lt = grind (arith, nat_tests)
@@ -131,7 +131,7 @@ module _ (s t : State) (at n : ℕ) (image : List ℕ) (is_image : IsImage t ima
   torn_back = (before, before_is, torn)
 
 -- An image after a cut is an earlier one, cut in part, with any bytes past the cut.
-module _ (s : State) (to : ℕ) (image : List ℕ) (is_image : IsImage (after s (cut_to to false)) image)
+module _ (s : State) (to : ℕ) (image : List ℕ) (is_image : IsImage (after_step s (cut_to to false)) image)
     (inside : to ≤ length s.bytes) (low : s.least ≤ length s.bytes) (high : length s.bytes ≤ s.greatest) where
   kept_byte : ℕ → ℕ
   kept_byte k = cond (nat_lt k to && nat_lt k (length image)) (slice_index image k) (slice_index s.bytes k)
@@ -166,7 +166,7 @@ module _ (s : State) (to : ℕ) (image : List ℕ) (is_image : IsImage (after s 
         | true ↦ λ hit.
             let lt_to : k < to = grind (arith, nat_tests) in
             let lt_image : k < length image = grind (arith, nat_tests) in
-            kept_front k lt_to lt_image ∙ is_image.firm k lt_image (firm_from (after s (cut_to to false)) k (omega (arith, below, lt_to)) free) ∙ get_or-take to s.bytes k 0 lt_to
+            kept_front k lt_to lt_image ∙ is_image.firm k lt_image (firm_from (after_step s (cut_to to false)) k (omega (arith, below, lt_to)) free) ∙ get_or-take to s.bytes k 0 lt_to
         | false ↦ λ miss. kept_back k miss
       ] in
       go (nat_lt k to && nat_lt k (length image)) refl

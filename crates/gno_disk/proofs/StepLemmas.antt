@@ -4,12 +4,12 @@ use Rattle.std.proofs.lemmas.List.{take_all, take-append-le, length_push}
 use Rattle.std.proofs.lemmas.Bool.{cases_lt}
 use Rattle.gno_disk.specs.Disk.{Elapses}
 use Rattle.gno_disk.specs.Memory.{Step}
-use Rattle.gno_disk.specs.Images.{State, after, after_all, MayLeave, LeftSince}
+use Rattle.gno_disk.specs.Images.{State, after_step, after_all, MayLeave, LeftSince}
 
 -- after one call more
-pub after_all-push : (s : State) (steps : List Step) (step : Step) → after_all s (steps ++ step ∷ []) ≡ after (after_all s steps) step
+pub after_all-push : (s : State) (steps : List Step) (step : Step) → after_all s (steps ++ step ∷ []) ≡ after_step (after_all s steps) step
 after_all-push s [] step = refl
-after_all-push s (first ∷ steps) step = after_all-push (after s first) steps step
+after_all-push s (first ∷ steps) step = after_all-push (after_step s first) steps step
 
 module _ (first : List ℕ) where
   left_before : (old : List Step) (step : Step) (moment : ℕ) (image : List ℕ) → moment ≤ length old → MayLeave first (take moment (old ++ step ∷ [])) image → MayLeave first (take moment old) image

@@ -3,7 +3,7 @@ use Rattle.std.proofs.Common.{◌≡◌, ℕ, ◌+◌, ◌*◌, ◌/◌, ◌%◌
 use Rattle.std.proofs.Math.Nat.{mod-add-mod}
 use Rattle.std.proofs.lemmas.List.{get_or_append_left, get_or_push}
 use Rattle.gno_disk.specs.Images.{State}
-use Rattle.gno_disk.specs.Stop.{next_draw, drawn, after_turn, before_turn}
+use Rattle.gno_disk.specs.Stop.{next_draw, drawn, after_place, before_turn}
 
 -- a draw in numbers of 64 bits
 pub next_draw-wraps : (x : ℕ) → (x * 6364136223846793005 % 18446744073709551616 + 1442695040888963407) % 18446744073709551616 ≡ next_draw x
@@ -19,7 +19,7 @@ pub before_turn-zero : (s : State) (x : ℕ) → before_turn s x 0 ≡ x
 unfolding before_turn
 before_turn-zero s x = refl
 
-pub before_turn-next : (s : State) (x place : ℕ) → before_turn s x (place + 1) ≡ after_turn s (before_turn s x place) place
+pub before_turn-next : (s : State) (x place : ℕ) → before_turn s x (place + 1) ≡ after_place s (before_turn s x place) place
 unfolding before_turn
 before_turn-next s x place = rw add-one refl
 

@@ -53,9 +53,10 @@ pub record Elapses (before now : ℕ) (past since : ℕ → List ℕ → Type 0)
   pub nothing_else : (t : ℕ) (image : List ℕ) → t ≤ before → since t image → past t image ⊎ may_leave image
   pub keeps : (t : ℕ) (image : List ℕ) → t ≤ before → past t image → since t image
 
--- Each image that a stop at some moment since `old` might have left has P.
-pub record LeavesOnly {D : Type 0} (moment : D → ℕ) (left_since : D → ℕ → List ℕ → Type 0) (old new : D) (P : List ℕ → Type 0) : Type 0 where
-  pub later : moment old ≤ moment new
-  pub each : (image : List ℕ) → left_since new (moment old) image → P image
-  -- for what began earlier
-  pub before : (t : ℕ) (image : List ℕ) → t ≤ moment old → left_since new t image → left_since old t image ⊎ P image
+-- The time of a disk goes on: since an earlier moment, a stop might have left what it might have
+-- left before, or what it might have left since then, and nothing else.
+pub record TimeGoesOn (before now : ℕ) (past since : ℕ → List ℕ → Type 0) : Type 0 where
+  pub later : before ≤ now
+  pub splits : (t : ℕ) (image : List ℕ) → t ≤ before → since t image → past t image ⊎ since before image
+  pub keeps : (t : ℕ) (image : List ℕ) → t ≤ before → past t image → since t image
+  pub more : (t : ℕ) (image : List ℕ) → t ≤ before → since before image → since t image

@@ -3,7 +3,7 @@ use Rattle.std.specs.Prelude.{◌≡◌, ℕ, ◌+◌, ◌<◌, ◌≤◌, min, 
 use Rattle.std.specs.List.{list_any}
 use Rattle.std.proofs.Common.{arith, subst, sym}
 use Rattle.std.proofs.lemmas.List.{take_all}
-use Rattle.gno_disk.specs.Memory.{Step, has_read, wrote, cut_to, synced}
+use Rattle.gno_disk.specs.Memory.{MemView, Step, has_read, wrote, cut_to, synced}
 
 -- a place and how many bytes from there on
 pub record Range : Type 0 where
@@ -23,34 +23,42 @@ abbrev pub fresh : List ℕ → State
 fresh bytes = record { bytes = bytes; least = length bytes; greatest = length bytes; ranges = [] }
 
 -- a state after one call more
-abbrev pub after : State → Step → State
-after s (has_read failed) = s
-after s (wrote at bytes false) = record {
+abbrev pub after_step : State → Step → State
+after_step s (has_read failed) = s
+after_step s (wrote at bytes false) = record {
   bytes = take at s.bytes ++ bytes ++ drop (at + length bytes) s.bytes;
   least = s.least;
   greatest = max s.greatest (at + length bytes);
   ranges = s.ranges ++ (record { at = at; len = length bytes }) ∷ [];
 }
-after s (wrote at bytes true) = record {
+after_step s (wrote at bytes true) = record {
   bytes = s.bytes;
   least = s.least;
   greatest = s.greatest;
   ranges = s.ranges ++ (record { at = at; len = length bytes }) ∷ [];
 }
-after s (cut_to to false) = record {
+after_step s (cut_to to false) = record {
   bytes = take to s.bytes;
   least = min s.least to;
   greatest = s.greatest;
   ranges = s.ranges;
 }
-after s (cut_to to true) = s
-after s (synced false) = fresh s.bytes
-after s (synced true) = s
+after_step s (cut_to to true) = s
+after_step s (synced false) = fresh s.bytes
+after_step s (synced true) = s
 
 -- a state after these calls, the first of them first
 abbrev pub after_all : State → List Step → State
 after_all s [] = s
-after_all s (step ∷ steps) = after_all (after s step) steps
+after_all s (step ∷ steps) = after_all (after_step s step) steps
+
+-- what a read gives after these calls on a disk that held these bytes at first
+abbrev pub bytes_after : List ℕ → List Step → List ℕ
+bytes_after first steps = (after_all (fresh first) steps).bytes
+
+-- the bytes that a disk in memory holds
+abbrev pub bytes_of : MemView → List ℕ
+bytes_of disk = bytes_after disk.first disk.steps
 
 -- the range has this place
 abbrev pub covers : ℕ → Range → Bool

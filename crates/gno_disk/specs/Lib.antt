@@ -1,3 +1,4 @@
+pub mod Comings
 pub mod Content
 pub mod Disk
 pub mod File
@@ -6,4 +7,5 @@ pub mod Inside
 pub mod Kept
 pub mod Memory
 pub mod Moments
+pub mod Phases
 pub mod Stop

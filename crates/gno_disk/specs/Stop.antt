@@ -19,13 +19,13 @@ one_of_four read draw =
     if draw % 4 == 2 then 1 else draw / 4 % 256
 
 -- the state after a place had its turn, which draws where the place is loose
-abbrev pub after_turn : State → ℕ → ℕ → ℕ
-after_turn s x place = if is_loose s place then next_draw x else x
+abbrev pub after_place : State → ℕ → ℕ → ℕ
+after_place s x place = if is_loose s place then next_draw x else x
 
 -- the state before a place has its turn: each place below had its own
 unfoldable pub before_turn : State → ℕ → ℕ → ℕ
 before_turn s x zero = x
-before_turn s x (suc place) = after_turn s (before_turn s x place) place
+before_turn s x (suc place) = after_place s (before_turn s x place) place
 
 -- the byte of a place whose turn it is
 abbrev pub byte_drawn : State → ℕ → ℕ → ℕ
@@ -40,5 +40,5 @@ pub record IsDrawn (s : State) (choice : ℕ) (image : List ℕ) : Type 0 where
       → slice_index image place ≡ byte_drawn s (before_turn s (next_draw choice) place) place
 
 -- the image that a number other than 0 chooses, after these calls on a disk that held these bytes at first
-abbrev pub IsChosen : List ℕ → List Step → ℕ → List ℕ → Type 0
-IsChosen first steps choice image = IsDrawn (after_all (fresh first) steps) choice image
+abbrev pub IsImageChosen : List ℕ → List Step → ℕ → List ℕ → Type 0
+IsImageChosen first steps choice image = IsDrawn (after_all (fresh first) steps) choice image

@@ -1,10 +1,10 @@
 // What a disk in memory holds, and how it came to.
 ghost use Rattle.std.specs.Prelude.{◌≡◌, ◌≢◌, ◌≤◌, ◌+◌, ◌^◌, ◌↔◌, [], ◌∷◌, ◌++◌, Bool, true, false, ◌<◌, length, take, slice_index, IsTrue, IfOk, OnOk, OnErr};
-ghost use Rattle.gno_disk.specs.Disk.{Overwrites, Torn, LooseCut, Follows, NoMore, Only, Elapses};
+ghost use Rattle.gno_disk.specs.Disk.{Torn, LooseCut, Follows, NoMore, Only, Elapses};
 ghost use Rattle.gno_disk.specs.Memory.{has_read, wrote, cut_to, synced};
-ghost use Rattle.gno_disk.specs.Images.{MayLeave, LeftSince, is_loose};
+ghost use Rattle.gno_disk.specs.Images.{bytes_after, MayLeave, LeftSince, is_loose};
 ghost use Rattle.gno_disk.specs.Inside.{state_of};
-ghost use Rattle.gno_disk.specs.Stop.{IsChosen};
+ghost use Rattle.gno_disk.specs.Stop.{IsImageChosen};
 
 use crate::call::{Call, cut_remembered, remember, remember_failed_write, write_remembered};
 use crate::since::{Since, add_range};
@@ -46,7 +46,6 @@ impl Model for Content {
     ghost view = { λ c. record {
       first = first_of c.first c.bytes.items;
       steps = steps_of c.calls.items;
-      bytes = c.bytes.items;
     } };
 
     ghost invariant = { IsKept };
@@ -56,7 +55,7 @@ impl Content {
     /// These bytes, all of them synced.
     pub fn new(alloc: Global, bytes: Vec<u8>) -> Content
         requires { length bytes.items ≤ 2 ^ 60 }
-        ensures { result ≡ record { first = bytes.items; steps = []; bytes = bytes.items } }
+        ensures { result ≡ record { first = bytes.items; steps = [] } }
     {
         let len = bytes.len() as u64;
         Content {
@@ -74,9 +73,8 @@ impl Content {
 
     /// The bytes that a read gives.
     pub fn bytes(&self) -> &[u8]
-        ensures bytes { result.now ≡ self.now.bytes }
-        ensures limit { length self.now.bytes ≤ 2 ^ 60 }
-        ensures image { MayLeave self.now.first self.now.steps self.now.bytes }
+        ensures bytes { result.now ≡ (bytes_after self.now.first self.now.steps) }
+        ensures limit { length (bytes_after self.now.first self.now.steps) ≤ 2 ^ 60 }
     {
         &self.bytes
     }
@@ -101,8 +99,8 @@ impl Content {
     pub fn image(&self, alloc: Global, choice: u64) -> Result<Vec<u8>, AllocError>
         ensures image { IfOk result (λ image. MayLeave self.now.first self.now.steps image.items) }
         ensures limit { IfOk result (λ image. length image.items ≤ 2 ^ 60) }
-        ensures reads { choice ≡ 0 → IfOk result (λ image. image.items ≡ self.now.bytes) }
-        ensures drawn { choice ≢ 0 → IfOk result (λ image. IsChosen self.now.first self.now.steps choice image.items) }
+        ensures reads { choice ≡ 0 → IfOk result (λ image. image.items ≡ (bytes_after self.now.first self.now.steps)) }
+        ensures drawn { choice ≢ 0 → IfOk result (λ image. IsImageChosen self.now.first self.now.steps choice image.items) }
     {
         if choice == 0 {
             return Vec::from_slice(alloc, &self.bytes);
@@ -110,9 +108,9 @@ impl Content {
         draw_image(alloc, &self.since, &self.bytes, choice)
     }
 
-    /// Whether so many bytes from this place on end within the limit of all disks.
-    pub fn is_within_limit(&self, at: u64, len: usize) -> bool
-        requires { at ≤ length self.now.bytes }
+    // Whether so many bytes from this place on end within the limit of all disks.
+    fn is_within_limit(&self, at: u64, len: usize) -> bool
+        requires { at ≤ length (bytes_after self.now.first self.now.steps) }
         ensures within { IsTrue result ↔ (at + len ≤ 2 ^ 60) }
     {
         let place = self.bytes.len() as u64;
@@ -122,7 +120,7 @@ impl Content {
     /// Remembers a read.
     pub fn note_read(&mut self, failed: bool) -> Result<(), AllocError>
         ensures first { self.new.first ≡ self.old.first }
-        ensures bytes { self.new.bytes ≡ self.old.bytes }
+        ensures bytes { bytes_after self.new.first self.new.steps ≡ bytes_after self.old.first self.old.steps }
         ensures ok { OnOk result (self.new.steps ≡ self.old.steps ++ has_read failed ∷ []) }
         ensures err { OnErr result (self.new ≡ self.old) }
         ensures crash { NoMore (MayLeave self.old.first self.old.steps) (MayLeave self.new.first self.new.steps) }
@@ -134,12 +132,11 @@ impl Content {
         Ok(())
     }
 
-    /// Writes over what is there and past the end.
+    /// Writes over what is there and past the end. For more than the limit there is no memory.
     pub fn write(&mut self, at: u64, bytes: &[u8]) -> Result<(), AllocError>
-        requires inside { at ≤ length self.old.bytes }
-        requires limit { at + length bytes.now ≤ 2 ^ 60 }
+        requires { at ≤ length (bytes_after self.old.first self.old.steps) }
+        ensures limit { OnOk result (at + length bytes.now ≤ 2 ^ 60) }
         ensures first { self.new.first ≡ self.old.first }
-        ensures written { OnOk result (Overwrites at bytes.now self.old.bytes self.new.bytes) }
         ensures ok { OnOk result (self.new.steps ≡ self.old.steps ++ wrote at bytes.now false ∷ []) }
         ensures err { OnErr result (self.new ≡ self.old) }
         ensures crash { Follows (Torn at (length bytes.now))
@@ -148,6 +145,9 @@ impl Content {
             (LeftSince self.old.first self.old.steps) (LeftSince self.new.first self.new.steps)
             (MayLeave self.new.first self.new.steps) }
     {
+        if !self.is_within_limit(at, bytes.len()) {
+            return Err(AllocError);
+        }
         self.since.ranges.reserve(1)?;
         write_remembered(
             self.alloc,
@@ -165,9 +165,8 @@ impl Content {
 
     /// Remembers a write that fails and changes no byte.
     pub fn fail_write(&mut self, at: u64, bytes: &[u8]) -> Result<(), AllocError>
-        requires { at ≤ length self.old.bytes }
+        requires { at ≤ length (bytes_after self.old.first self.old.steps) }
         ensures first { self.new.first ≡ self.old.first }
-        ensures bytes { self.new.bytes ≡ self.old.bytes }
         ensures ok { OnOk result (self.new.steps ≡ self.old.steps ++ wrote at bytes.now true ∷ []) }
         ensures err { OnErr result (self.new ≡ self.old) }
         ensures crash { Follows (Torn at (length bytes.now))
@@ -184,9 +183,8 @@ impl Content {
 
     /// Cuts to a length.
     pub fn cut(&mut self, to: u64) -> Result<(), AllocError>
-        requires { to ≤ length self.old.bytes }
+        requires { to ≤ length (bytes_after self.old.first self.old.steps) }
         ensures first { self.new.first ≡ self.old.first }
-        ensures cut { OnOk result (self.new.bytes ≡ take to self.old.bytes) }
         ensures ok { OnOk result (self.new.steps ≡ self.old.steps ++ cut_to to false ∷ []) }
         ensures err { OnErr result (self.new ≡ self.old) }
         ensures crash { Follows (LooseCut to)
@@ -209,7 +207,6 @@ impl Content {
     /// Remembers a cut that fails and changes no byte.
     pub fn fail_cut(&mut self, to: u64) -> Result<(), AllocError>
         ensures first { self.new.first ≡ self.old.first }
-        ensures bytes { self.new.bytes ≡ self.old.bytes }
         ensures ok { OnOk result (self.new.steps ≡ self.old.steps ++ cut_to to true ∷ []) }
         ensures err { OnErr result (self.new ≡ self.old) }
         ensures crash { Follows (LooseCut to)
@@ -225,10 +222,9 @@ impl Content {
     /// Syncs: nothing is loose.
     pub fn sync(&mut self) -> Result<(), AllocError>
         ensures first { self.new.first ≡ self.old.first }
-        ensures bytes { self.new.bytes ≡ self.old.bytes }
         ensures ok { OnOk result (self.new.steps ≡ self.old.steps ++ synced false ∷ []) }
         ensures err { OnErr result (self.new ≡ self.old) }
-        ensures durable { OnOk result (Only self.old.bytes (MayLeave self.new.first self.new.steps)) }
+        ensures durable { OnOk result (Only (bytes_after self.old.first self.old.steps) (MayLeave self.new.first self.new.steps)) }
         ensures crash { NoMore (MayLeave self.old.first self.old.steps) (MayLeave self.new.first self.new.steps) }
         ensures time { Elapses (length self.old.steps) (length self.new.steps)
             (LeftSince self.old.first self.old.steps) (LeftSince self.new.first self.new.steps)
@@ -245,7 +241,6 @@ impl Content {
     /// Remembers a sync that fails.
     pub fn fail_sync(&mut self) -> Result<(), AllocError>
         ensures first { self.new.first ≡ self.old.first }
-        ensures bytes { self.new.bytes ≡ self.old.bytes }
         ensures ok { OnOk result (self.new.steps ≡ self.old.steps ++ synced true ∷ []) }
         ensures err { OnErr result (self.new ≡ self.old) }
         ensures crash { NoMore (MayLeave self.old.first self.old.steps) (MayLeave self.new.first self.new.steps) }

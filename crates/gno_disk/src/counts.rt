@@ -26,6 +26,7 @@ impl Counts {
         ensures starved { self.new.starved
             ≡ (if is_err made then raised self.old.starved else self.old.starved) }
         ensures later { self.old.faults ≤ self.new.faults }
+        ensures starved_later { self.old.starved ≤ self.new.starved }
         ensures fuse { self.new.fuse ≡ self.old.fuse }
     {
         self.number = self.number.saturating_add(1);
@@ -53,6 +54,7 @@ impl Counts {
         ensures starved { self.new.starved
             ≡ (if is_err made then raised self.old.starved else self.old.starved) }
         ensures later { self.old.faults ≤ self.new.faults }
+        ensures starved_later { self.old.starved ≤ self.new.starved }
         ensures fuse { self.new.fuse
             ≡ (if is_err result then self.old.fuse else burnt self.old.fuse) }
     {

@@ -1,7 +1,7 @@
 // What a disk does.
-ghost use Rattle.std.specs.Prelude.{ℕ, List, Option, ◌≡◌, ◌+◌, ◌^◌, ◌≤◌, max, length, take, drop, IfSome, OnOk, OnErr};
+ghost use Rattle.std.specs.Prelude.{ℕ, List, Option, ◌≡◌, ◌+◌, ◌^◌, ◌≤◌, max, length, take, drop, is_some, IfSome, OnOk, OnErr};
 ghost use Rattle.gno_num.specs.Faults.{Rose};
-ghost use Rattle.gno_disk.specs.Disk.{Overwrites, Torn, PartCut, LooseCut, Told, Follows, NoMore, Only, Elapses};
+ghost use Rattle.gno_disk.specs.Disk.{Overwrites, Torn, PartCut, LooseCut, Told, Follows, NoMore, Only, Elapses, TimeGoesOn};
 
 use gno_num::Failed;
 
@@ -27,12 +27,15 @@ pub trait Disk {
     /// between two.
     ghost left_since: { Self → ℕ → List ℕ → Type 0 };
 
+    /// The second disk came from the first by at most so many writes, cuts and syncs, and by any
+    /// number of reads.
+    ghost came: { ℕ → Self → Self → Type 0 };
+
     /// The length in bytes.
     fn len(&self) -> u64
         ensures value { result ≡ size self.now }
         ensures limit { result ≤ 2 ^ 60 }
-        ensures told { IfSome (told self.now) (λ bytes. length bytes ≡ size self.now) }
-        ensures image { IfSome (told self.now) (may_leave self.now) };
+        ensures told { IfSome (told self.now) (λ bytes. length bytes ≡ size self.now) };
 
     /// How often it has failed.
     fn faults(&self) -> u64
@@ -48,7 +51,8 @@ pub trait Disk {
         ensures time { Elapses (moment self.old) (moment self.new)
             (left_since self.old) (left_since self.new) (may_leave self.new) }
         ensures later { faults self.old ≤ faults self.new }
-        ensures cause { OnErr result (Rose (faults self.old) (faults self.new)) };
+        ensures cause { OnErr result (Rose (faults self.old) (faults self.new)) }
+        ensures came { came 0 self.old self.new };
 
     /// Writes from the place `at` on, over what is there and past the end. A write that fails may
     /// have done any part. One whose end lies past 2^60 fails.
@@ -62,7 +66,8 @@ pub trait Disk {
         ensures time { Elapses (moment self.old) (moment self.new)
             (left_since self.old) (left_since self.new) (may_leave self.new) }
         ensures later { faults self.old ≤ faults self.new }
-        ensures cause { OnErr result (Rose (faults self.old) (faults self.new)) };
+        ensures cause { OnErr result (Rose (faults self.old) (faults self.new)) }
+        ensures came { came 1 self.old self.new };
 
     /// Cuts the disk to a length. A cut that fails may have done any part.
     fn cut(&mut self, to: u64) -> Result<(), Failed>
@@ -74,7 +79,8 @@ pub trait Disk {
         ensures time { Elapses (moment self.old) (moment self.new)
             (left_since self.old) (left_since self.new) (may_leave self.new) }
         ensures later { faults self.old ≤ faults self.new }
-        ensures cause { OnErr result (Rose (faults self.old) (faults self.new)) };
+        ensures cause { OnErr result (Rose (faults self.old) (faults self.new)) }
+        ensures came { came 1 self.old self.new };
 
     /// After it, what was written stays: a stop leaves what a read gives.
     fn sync(&mut self) -> Result<(), Failed>
@@ -85,14 +91,36 @@ pub trait Disk {
         ensures time { Elapses (moment self.old) (moment self.new)
             (left_since self.old) (left_since self.new) (may_leave self.new) }
         ensures later { faults self.old ≤ faults self.new }
-        ensures cause { OnErr result (Rose (faults self.old) (faults self.new)) };
+        ensures cause { OnErr result (Rose (faults self.old) (faults self.new)) }
+        ensures came { came 1 self.old self.new };
 
     /// The bytes that are told are all of them.
     ghost whole: { (disk : Self) → IfSome (told disk) (λ bytes. length bytes ≡ size disk) };
+
+    /// The disk as it reads is one of its images.
+    ghost reads: { (disk : Self) → IfSome (told disk) (may_leave disk) };
 
     /// This moment is one of those since an earlier one.
     ghost counts_now: { (disk : Self) (since : ℕ) (image : List ℕ) → since ≤ moment disk → may_leave disk image → left_since disk since image };
 
     /// Since this moment there is no other.
     ghost only_now: { (disk : Self) (image : List ℕ) → left_since disk (moment disk) image → may_leave disk image };
+
+    /// A disk came from itself by no call.
+    ghost came_none: { (disk : Self) → came 0 disk disk };
+
+    /// Calls that follow one another add up.
+    ghost came_then: { (m n : ℕ) (old mid new : Self) → came m old mid → came n mid new → came (m + n) old new };
+
+    /// At most so many are at most more.
+    ghost came_more: { (m n : ℕ) (old new : Self) → m ≤ n → came m old new → came n old new };
+
+    /// The faults don't become fewer.
+    ghost came_later: { (n : ℕ) (old new : Self) → came n old new → faults old ≤ faults new };
+
+    /// Time goes on.
+    ghost came_goes_on: { (n : ℕ) (old new : Self) → came n old new → TimeGoesOn (moment old) (moment new) (left_since old) (left_since new) };
+
+    /// Whether the bytes are told stays.
+    ghost came_tells: { (n : ℕ) (old new : Self) → came n old new → is_some (told new) ≡ is_some (told old) };
 }

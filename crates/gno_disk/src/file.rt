@@ -64,7 +64,7 @@ fn answer(faults: &mut u64, done: bool) -> Result<(), Failed>
 }
 
 impl Disk for FileDisk {
-    ghost use Rattle.gno_disk.specs.File.{no_bytes, no_image, no_past, nothing_whole, nothing_counts, nothing_only};
+    ghost use Rattle.gno_disk.specs.File.{no_bytes, no_image, no_past, nothing_whole, nothing_reads, nothing_counts, nothing_only, AnyCame, came_none, came_then, came_more, came_later, came_goes_on, came_tells};
 
     ghost told = { no_bytes };
 
@@ -80,9 +80,25 @@ impl Disk for FileDisk {
 
     ghost whole = { nothing_whole };
 
+    ghost reads = { nothing_reads };
+
     ghost counts_now = { nothing_counts };
 
     ghost only_now = { nothing_only };
+
+    ghost came = { AnyCame };
+
+    ghost came_none = { came_none };
+
+    ghost came_then = { came_then };
+
+    ghost came_more = { came_more };
+
+    ghost came_later = { came_later };
+
+    ghost came_goes_on = { came_goes_on };
+
+    ghost came_tells = { came_tells };
 
     fn len(&self) -> u64 {
         self.len

@@ -2,9 +2,10 @@
 ghost use Rattle.std.specs.Prelude.{◌≡◌, ◌≢◌, ◌⊎◌, ◌≤◌, ◌<◌, ◌+◌, ◌^◌, ◌↔◌, [], Some, None, refl, is_err, length, take, drop, max, IsTrue, IsErr, IfOk, OnOk, OnErr, if◌then◌else◌};
 ghost use Rattle.gno_num.specs.Faults.{Rose};
 ghost use Rattle.gno_disk.specs.Disk.{Overwrites, Torn, PartCut, LooseCut, Follows, NoMore, Only, Elapses};
-ghost use Rattle.gno_disk.specs.Memory.{IsPlanned, IsMade, IsStarved, IsCounted, burnt, has_read, wrote, cut_to, synced};
-ghost use Rattle.gno_disk.specs.Images.{MayLeave, LeftSince, now_counts, now_only};
-ghost use Rattle.gno_disk.specs.Stop.{IsChosen};
+ghost use Rattle.gno_disk.specs.Comings.{reads_image, Came-none, Came-then, Came-more, Came-later, Came-goes_on, Came-fused, Came-unfused, Came-listed, Came-starved, Came-failed};
+ghost use Rattle.gno_disk.specs.Memory.{Came, IsListed, IsPlanned, IsMade, LacksMemory, IsNumbered, burnt, has_read, wrote, cut_to, synced};
+ghost use Rattle.gno_disk.specs.Images.{bytes_of, MayLeave, LeftSince, now_counts, now_only};
+ghost use Rattle.gno_disk.specs.Stop.{IsImageChosen};
 
 use crate::content::Content;
 use crate::counts::Counts;
@@ -15,7 +16,8 @@ use std::marker::Model;
 
 /// A disk in memory, which tells its bytes. Its calls fail where they are listed, once its fuse
 /// lets nothing pass, or for want of memory, and it remembers each call that was made. A call that
-/// fails changes no byte that a read gives, but the range of a failed write is loose all the same.
+/// fails changes no byte that a read gives, but the range of a failed write is loose all the same. For
+/// a write whose end lies past 2^60 there is no memory.
 #[derive(Drop)]
 pub struct MemDisk {
     content: Content,
@@ -31,7 +33,6 @@ impl Model for MemDisk {
     ghost view = { λ d. record {
       first = d.content.first;
       steps = d.content.steps;
-      bytes = d.content.bytes;
       number = d.counts.number;
       fail = d.fail.items;
       fuse = d.counts.fuse;
@@ -48,7 +49,6 @@ impl MemDisk {
         ensures { result ≡ record {
           first = bytes.items;
           steps = [];
-          bytes = bytes.items;
           number = 0;
           fail = fail.items;
           fuse = None;
@@ -70,7 +70,7 @@ impl MemDisk {
 
     /// The bytes that a read gives.
     pub fn bytes(&self) -> &[u8]
-        ensures { result.now ≡ self.now.bytes }
+        ensures { result.now ≡ bytes_of self.now }
     {
         self.content.bytes()
     }
@@ -91,19 +91,18 @@ impl MemDisk {
     /// first, takes one draw: by its remainder over 4 the byte that a read gives (0 where it gives
     /// none), 0, 1, or the last byte of its quotient.
     pub fn stop(&self, alloc: Global, choice: u64) -> Result<MemDisk, Memory>
-        ensures image { IfOk result (λ disk. MayLeave self.now.first self.now.steps disk.bytes) }
+        ensures image { IfOk result (λ disk. MayLeave self.now.first self.now.steps disk.first) }
         ensures fresh { IfOk result (λ disk. disk ≡ record {
-          first = disk.bytes;
+          first = disk.first;
           steps = [];
-          bytes = disk.bytes;
           number = 0;
           fail = [];
           fuse = None;
           faults = 0;
           starved = 0;
         }) }
-        ensures reads { choice ≡ 0 → IfOk result (λ disk. disk.bytes ≡ self.now.bytes) }
-        ensures drawn { choice ≢ 0 → IfOk result (λ disk. IsChosen self.now.first self.now.steps choice disk.bytes) }
+        ensures reads { choice ≡ 0 → IfOk result (λ disk. disk.first ≡ bytes_of self.now) }
+        ensures drawn { choice ≢ 0 → IfOk result (λ disk. IsImageChosen self.now.first self.now.steps choice disk.first) }
     {
         let image = self.content.image(alloc, choice)?;
         Ok(MemDisk::new(alloc, image, Vec::new(alloc)))
@@ -122,6 +121,18 @@ impl Fusible for MemDisk {
 
     ghost fused = { λ d. d.fuse };
 
+    ghost listed = { IsListed };
+
+    ghost came_fused = { Came-fused };
+
+    ghost came_unfused = { Came-unfused };
+
+    ghost came_listed = { Came-listed };
+
+    ghost came_starved = { Came-starved };
+
+    ghost came_failed = { Came-failed };
+
     fn fuse(&mut self, calls: u64)
         ensures { self.new ≡ record self.old { fuse = Some calls } }
     {
@@ -134,9 +145,9 @@ impl Fusible for MemDisk {
 }
 
 impl Disk for MemDisk {
-    ghost told = { λ d. Some d.bytes };
+    ghost told = { λ d. Some (bytes_of d) };
 
-    ghost size = { λ d. length d.bytes };
+    ghost size = { λ d. length (bytes_of d) };
 
     ghost faults = { λ d. d.faults };
 
@@ -148,9 +159,25 @@ impl Disk for MemDisk {
 
     ghost whole = { λ _. refl };
 
+    ghost reads = { reads_image };
+
     ghost counts_now = { λ d. now_counts d.first d.steps };
 
     ghost only_now = { λ d. now_only d.first d.steps };
+
+    ghost came = { Came };
+
+    ghost came_none = { Came-none };
+
+    ghost came_then = { Came-then };
+
+    ghost came_more = { Came-more };
+
+    ghost came_later = { Came-later };
+
+    ghost came_goes_on = { Came-goes_on };
+
+    ghost came_tells = { λ n old new came. refl };
 
     fn len(&self) -> u64 {
         self.content.bytes().len() as u64
@@ -161,22 +188,24 @@ impl Disk for MemDisk {
     }
 
     fn read(&mut self, at: u64, out: &mut [u8]) -> Result<(), Failed>
-        requires { at + length out.old ≤ length self.old.bytes }
-        ensures bytes { OnOk result (out.new ≡ take (length out.old) (drop at self.old.bytes)) }
-        ensures told { self.new.bytes ≡ self.old.bytes }
-        ensures size { length self.new.bytes ≡ length self.old.bytes }
+        requires { at + length out.old ≤ length (bytes_of self.old) }
+        ensures bytes { OnOk result (out.new ≡ take (length out.old) (drop at (bytes_of self.old))) }
+        ensures told { bytes_of self.new ≡ bytes_of self.old }
+        ensures size { length (bytes_of self.new) ≡ length (bytes_of self.old) }
         ensures crash { NoMore (MayLeave self.old.first self.old.steps) (MayLeave self.new.first self.new.steps) }
         ensures time { Elapses (length self.old.steps) (length self.new.steps)
             (LeftSince self.old.first self.old.steps) (LeftSince self.new.first self.new.steps)
             (MayLeave self.new.first self.new.steps) }
         ensures later { self.old.faults ≤ self.new.faults }
         ensures cause { OnErr result (Rose self.old.faults self.new.faults) }
+        ensures came { Came 0 self.old self.new }
+        ensures starved { self.old.starved ≤ self.new.starved }
 
         ensures listed { IsPlanned self.old → IsErr result }
-        ensures unlisted { OnErr result (IsPlanned self.old ⊎ IsStarved self.old self.new) }
+        ensures unlisted { OnErr result (IsPlanned self.old ⊎ LacksMemory self.old self.new) }
         ensures made { IsMade self.old self.new (has_read (is_err result))
-            ⊎ (IsErr result × IsStarved self.old self.new) }
-        ensures counted { IsCounted self.old self.new (is_err result) }
+            ⊎ (IsErr result × LacksMemory self.old self.new) }
+        ensures counted { IsNumbered self.old self.new (is_err result) }
         ensures fuse { self.new.fuse ≡ self.old.fuse }
     {
         let failed = self.is_planned();
@@ -188,12 +217,12 @@ impl Disk for MemDisk {
     }
 
     fn write_at(&mut self, at: u64, bytes: &[u8]) -> Result<(), Failed>
-        requires { at ≤ length self.old.bytes }
-        ensures written { OnOk result (Overwrites at bytes.now self.old.bytes self.new.bytes) }
+        requires { at ≤ length (bytes_of self.old) }
+        ensures written { OnOk result (Overwrites at bytes.now (bytes_of self.old) (bytes_of self.new)) }
         ensures size { OnOk result
-            (length self.new.bytes ≡ max (length self.old.bytes) (at + length bytes.now)) }
+            (length (bytes_of self.new) ≡ max (length (bytes_of self.old)) (at + length bytes.now)) }
         ensures limit { OnOk result (at + length bytes.now ≤ 2 ^ 60) }
-        ensures torn { OnErr result (Torn at (length bytes.now) self.old.bytes self.new.bytes) }
+        ensures torn { OnErr result (Torn at (length bytes.now) (bytes_of self.old) (bytes_of self.new)) }
         ensures crash { Follows (Torn at (length bytes.now))
             (MayLeave self.old.first self.old.steps) (MayLeave self.new.first self.new.steps) }
         ensures time { Elapses (length self.old.steps) (length self.new.steps)
@@ -201,17 +230,18 @@ impl Disk for MemDisk {
             (MayLeave self.new.first self.new.steps) }
         ensures later { self.old.faults ≤ self.new.faults }
         ensures cause { OnErr result (Rose self.old.faults self.new.faults) }
+        ensures came { Came 1 self.old self.new }
+        ensures starved { self.old.starved ≤ self.new.starved }
 
-        ensures unchanged { OnErr result (self.new.bytes ≡ self.old.bytes) }
+        ensures unchanged { OnErr result (bytes_of self.new ≡ bytes_of self.old) }
         ensures listed { IsPlanned self.old → IsErr result }
-        ensures unlisted { OnErr result (IsPlanned self.old ⊎ (2 ^ 60 < at + length bytes.now)
-            ⊎ IsStarved self.old self.new) }
+        ensures unlisted { OnErr result (IsPlanned self.old ⊎ LacksMemory self.old self.new) }
         ensures made { IsMade self.old self.new (wrote at bytes.now (is_err result))
-            ⊎ (IsErr result × IsStarved self.old self.new) }
-        ensures counted { IsCounted self.old self.new (is_err result) }
+            ⊎ (IsErr result × LacksMemory self.old self.new) }
+        ensures counted { IsNumbered self.old self.new (is_err result) }
         ensures fuse { self.new.fuse ≡ (if is_err result then self.old.fuse else burnt self.old.fuse) }
     {
-        let failed = self.is_planned() || !self.content.is_within_limit(at, bytes.len());
+        let failed = self.is_planned();
         let made = if failed {
             self.content.fail_write(at, bytes)
         } else {
@@ -221,10 +251,10 @@ impl Disk for MemDisk {
     }
 
     fn cut(&mut self, to: u64) -> Result<(), Failed>
-        requires { to ≤ length self.old.bytes }
-        ensures cut { OnOk result (self.new.bytes ≡ take to self.old.bytes) }
-        ensures size { OnOk result (length self.new.bytes ≡ to) }
-        ensures part { OnErr result (PartCut to self.old.bytes self.new.bytes) }
+        requires { to ≤ length (bytes_of self.old) }
+        ensures cut { OnOk result (bytes_of self.new ≡ take to (bytes_of self.old)) }
+        ensures size { OnOk result (length (bytes_of self.new) ≡ to) }
+        ensures part { OnErr result (PartCut to (bytes_of self.old) (bytes_of self.new)) }
         ensures crash { Follows (LooseCut to)
             (MayLeave self.old.first self.old.steps) (MayLeave self.new.first self.new.steps) }
         ensures time { Elapses (length self.old.steps) (length self.new.steps)
@@ -232,13 +262,15 @@ impl Disk for MemDisk {
             (MayLeave self.new.first self.new.steps) }
         ensures later { self.old.faults ≤ self.new.faults }
         ensures cause { OnErr result (Rose self.old.faults self.new.faults) }
+        ensures came { Came 1 self.old self.new }
+        ensures starved { self.old.starved ≤ self.new.starved }
 
-        ensures unchanged { OnErr result (self.new.bytes ≡ self.old.bytes) }
+        ensures unchanged { OnErr result (bytes_of self.new ≡ bytes_of self.old) }
         ensures listed { IsPlanned self.old → IsErr result }
-        ensures unlisted { OnErr result (IsPlanned self.old ⊎ IsStarved self.old self.new) }
+        ensures unlisted { OnErr result (IsPlanned self.old ⊎ LacksMemory self.old self.new) }
         ensures made { IsMade self.old self.new (cut_to to (is_err result))
-            ⊎ (IsErr result × IsStarved self.old self.new) }
-        ensures counted { IsCounted self.old self.new (is_err result) }
+            ⊎ (IsErr result × LacksMemory self.old self.new) }
+        ensures counted { IsNumbered self.old self.new (is_err result) }
         ensures fuse { self.new.fuse ≡ (if is_err result then self.old.fuse else burnt self.old.fuse) }
     {
         let failed = self.is_planned();
@@ -251,21 +283,23 @@ impl Disk for MemDisk {
     }
 
     fn sync(&mut self) -> Result<(), Failed>
-        ensures told { self.new.bytes ≡ self.old.bytes }
-        ensures size { length self.new.bytes ≡ length self.old.bytes }
-        ensures durable { OnOk result (Only self.old.bytes (MayLeave self.new.first self.new.steps)) }
+        ensures told { bytes_of self.new ≡ bytes_of self.old }
+        ensures size { length (bytes_of self.new) ≡ length (bytes_of self.old) }
+        ensures durable { OnOk result (Only (bytes_of self.old) (MayLeave self.new.first self.new.steps)) }
         ensures crash { NoMore (MayLeave self.old.first self.old.steps) (MayLeave self.new.first self.new.steps) }
         ensures time { Elapses (length self.old.steps) (length self.new.steps)
             (LeftSince self.old.first self.old.steps) (LeftSince self.new.first self.new.steps)
             (MayLeave self.new.first self.new.steps) }
         ensures later { self.old.faults ≤ self.new.faults }
         ensures cause { OnErr result (Rose self.old.faults self.new.faults) }
+        ensures came { Came 1 self.old self.new }
+        ensures starved { self.old.starved ≤ self.new.starved }
 
         ensures listed { IsPlanned self.old → IsErr result }
-        ensures unlisted { OnErr result (IsPlanned self.old ⊎ IsStarved self.old self.new) }
+        ensures unlisted { OnErr result (IsPlanned self.old ⊎ LacksMemory self.old self.new) }
         ensures made { IsMade self.old self.new (synced (is_err result))
-            ⊎ (IsErr result × IsStarved self.old self.new) }
-        ensures counted { IsCounted self.old self.new (is_err result) }
+            ⊎ (IsErr result × LacksMemory self.old self.new) }
+        ensures counted { IsNumbered self.old self.new (is_err result) }
         ensures fuse { self.new.fuse ≡ (if is_err result then self.old.fuse else burnt self.old.fuse) }
     {
         let failed = self.is_planned();

@@ -2,7 +2,7 @@
 ghost use Rattle.std.specs.Prelude.{◌≡◌, ◌+◌, ◌-◌, ◌%◌, ◌<◌, ◌≤◌, ◌^◌, length, slice_index, IfOk};
 ghost use Rattle.gno_disk.specs.Images.{IsImage};
 ghost use Rattle.gno_disk.specs.Inside.{state_of};
-ghost use Rattle.gno_disk.specs.Stop.{next_draw, drawn, one_of_four, after_turn, byte_drawn, IsDrawn};
+ghost use Rattle.gno_disk.specs.Stop.{next_draw, drawn, one_of_four, after_place, byte_drawn, IsDrawn};
 
 use crate::since::Since;
 use std::alloc::{AllocError, Global};
@@ -64,7 +64,7 @@ fn read_byte(bytes: &[u8], place: usize) -> u8
 // The byte of an image at a place: only where it is loose, another one than a read gives.
 fn image_byte(since: &Since, bytes: &[u8], draws: &mut Draws, place: usize) -> u8
     ensures draw { result ≡ byte_drawn (state_of bytes.now since.now) draws.old.state place }
-    ensures state { draws.new.state ≡ after_turn (state_of bytes.now since.now) draws.old.state place }
+    ensures state { draws.new.state ≡ after_place (state_of bytes.now since.now) draws.old.state place }
 {
     let read = read_byte(bytes, place);
     if since.is_loose(place as u64) {

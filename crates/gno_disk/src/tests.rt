@@ -1,4 +1,5 @@
 ghost use Rattle.std.specs.Prelude.{◌≡◌, ◌≤◌, length, IfOk};
+ghost use Rattle.gno_disk.specs.Images.{bytes_of};
 
 use crate::{Disk, FileDisk, Fusible, MemDisk};
 use gno_num::Failed;
@@ -21,11 +22,13 @@ fn use_disk<D: Disk>(disk: &mut D) -> Result<[u8; 2], Failed>
 }
 
 fn disk(alloc: Global, fail: &[u64]) -> Result<MemDisk, Fail>
-    ensures { IfOk result (λ disk. length disk.bytes ≡ 2) }
+    ensures { IfOk result (λ disk. length (bytes_of disk) ≡ 2) }
 {
     let bytes = Vec::from_slice(alloc, &[1, 2])?;
     Ok(MemDisk::new(alloc, bytes, Vec::from_slice(alloc, fail)?))
 }
+
+fn is_send<T: Send + Drop>(_value: T) {}
 
 #[test]
 fn a_disk_holds_what_was_written(rt: HostRuntime) -> Result<(), Fail> {
@@ -63,6 +66,7 @@ fn a_fuse_lets_some_calls_pass(rt: HostRuntime) -> Result<(), Fail> {
     disk.fuse(1);
     assert_eq!(rt; disk.write_at(0, &[9]), Ok(()));
     assert!(rt; disk.images_allow(&[7, 2]));
+    is_send(disk);
     Ok(())
 }
 

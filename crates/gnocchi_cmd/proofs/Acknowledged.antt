@@ -10,18 +10,18 @@ use Rattle.plain_store.specs.declared.request.Request.TheVariants as asked
 use Rattle.plain_store.specs.Policy.{the_metric}
 use Rattle.plain_store.specs.Fate.{Fate, Answered, Failed, Unopened, Starved, opening, own, answer_to}
 use Rattle.gnocchi_cmd.specs.Line.{request_of}
-use Rattle.gnocchi_cmd.specs.Session.{entries_of, reply_to, history_onto, IsPosted}
+use Rattle.gnocchi_cmd.specs.Session.{entries_added, reply_to, history_onto, IsPosted}
 
 -- a history only grows
 grows : (history : List Entry) (events : List (List ℕ × Fate)) → (more : List Entry) × (history_onto history events ≡ history ++ more)
 grows history [] = ([], sym (append-nil history))
 grows history (e ∷ events) =
-    let next = grows (history ++ entries_of history e) events in
-    (entries_of history e ++ next.0, next.1 ∙ append_assoc history (entries_of history e) next.0)
+    let next = grows (history ++ entries_added history e) events in
+    (entries_added history e ++ next.0, next.1 ∙ append_assoc history (entries_added history e) next.0)
 
 history_onto-append : (history : List Entry) (a b : List (List ℕ × Fate)) → history_onto history (a ++ b) ≡ history_onto (history_onto history a) b
 history_onto-append history [] b = refl
-history_onto-append history (e ∷ a) b = history_onto-append (history ++ entries_of history e) a b
+history_onto-append history (e ∷ a) b = history_onto-append (history ++ entries_added history e) a b
 
 -- only a post that was taken in is answered so
 posting : (history : List Entry) (request : Request) (fate : Fate) → answer_to history request fate ≡ codes "202\n"
@@ -60,10 +60,10 @@ acknowledged first a b line fate e =
     let p = posting h (request_of line) fate e in
     let measures = p.0 in
     let reopened = p.1 in
-    let mine : entries_of h (line, fate) ≡ opening reopened ++ Post (next_number (kept (h ++ opening reopened))) the_metric measures ∷ [] =
+    let mine : entries_added h (line, fate) ≡ opening reopened ++ Post (next_number (kept (h ++ opening reopened))) the_metric measures ∷ [] =
     ap (λ f. own h (request_of line) f) p.3 ∙ ap (λ r. own h r (Answered reopened)) p.2 in
-    let more = grows (h ++ entries_of h (line, fate)) b in
-    let whole : history_onto first (a ++ (line, fate) ∷ b) ≡ (h ++ entries_of h (line, fate)) ++ more.0 = history_onto-append first a ((line, fate) ∷ b) ∙ more.1 in (
+    let more = grows (h ++ entries_added h (line, fate)) b in
+    let whole : history_onto first (a ++ (line, fate) ∷ b) ≡ (h ++ entries_added h (line, fate)) ++ more.0 = history_onto-append first a ((line, fate) ∷ b) ∙ more.1 in (
       measures,
       p.2,
       subst (λ es. IsPosted (kept es) measures) (ap (λ mine_are. (h ++ mine_are) ++ more.0) (sym mine) ∙ sym whole)

@@ -12,9 +12,9 @@ use Rattle.gnocchi_cmd.specs.declared.stop.Stop.{Stop}
 use Rattle.gnocchi_cmd.specs.declared.stop.Stop.TheVariants.{Input, Read, Write, Memory, TooMuch}
 use Rattle.gnocchi_cmd.specs.Feeding.{Becomes}
 use Rattle.gnocchi_cmd.specs.Line.{request_of}
-use Rattle.gnocchi_cmd.specs.Progress.{Follows, Reached, IsFront, Stopped, Halted, IsOfLine}
+use Rattle.gnocchi_cmd.specs.Progress.{StandsBehind, Reached, IsFront, Stopped, Halted, IsOfLine}
 use Rattle.gnocchi_cmd.specs.Script.{IsLine, ended}
-use Rattle.gnocchi_cmd.specs.Session.{lines_of, entries_of, reply_to, history_onto, transcript, AreFates, AreAnswered, AreAnsweredButLast, AreUndamaged}
+use Rattle.gnocchi_cmd.specs.Session.{lines_of, entries_added, reply_to, history_onto, transcript, AreFates, AreAnswered, AreAnsweredButLast, AreUndamaged}
 
 pub always_on_err : {A E : Type 0} (result : Result A E) (P : Type 0) → P → OnErr result P
 always_on_err (Ok x) P p = tt
@@ -22,14 +22,14 @@ always_on_err (Err e) P p = p
 
 -- ---- one line more
 
-pub history_onto-push : (history : List Entry) (events : List (List ℕ × Fate)) (event : List ℕ × Fate) → history_onto history (events ++ event ∷ []) ≡ history_onto history events ++ entries_of (history_onto history events) event
+pub history_onto-push : (history : List Entry) (events : List (List ℕ × Fate)) (event : List ℕ × Fate) → history_onto history (events ++ event ∷ []) ≡ history_onto history events ++ entries_added (history_onto history events) event
 history_onto-push history [] event = refl
-history_onto-push history (e ∷ events) event = history_onto-push (history ++ entries_of history e) events event
+history_onto-push history (e ∷ events) event = history_onto-push (history ++ entries_added history e) events event
 
 pub transcript-push : (history : List Entry) (events : List (List ℕ × Fate)) (event : List ℕ × Fate) → transcript history (events ++ event ∷ []) ≡ transcript history events ++ reply_to (history_onto history events) event
 transcript-push history [] event = append-nil (reply_to history event)
 transcript-push history (e ∷ events) event =
-    let next = history ++ entries_of history e in
+    let next = history ++ entries_added history e in
     ap (λ out. reply_to history e ++ out) (transcript-push next events event)
     ∙ sym (append_assoc (reply_to history e) (transcript next events) (reply_to (history_onto next events) event))
 
@@ -48,7 +48,7 @@ pub AreFates-push : (from mid to : ℕ) (history : List Entry) (events : List (L
 AreFates-push from mid to history [] event h may le counted =
     (may, (to, omega arith, IsCounted-from from mid to event.1 h counted, omega arith))
 AreFates-push from mid to history (e ∷ events) event h may le counted =
-    (h.0, (h.1.0, h.1.1, h.1.2, AreFates-push h.1.0 mid to (history ++ entries_of history e) events event h.1.3 may le counted))
+    (h.0, (h.1.0, h.1.1, h.1.2, AreFates-push h.1.0 mid to (history ++ entries_added history e) events event h.1.3 may le counted))
 
 pub AreFates-from : (from mid to : ℕ) (history : List Entry) (events : List (List ℕ × Fate)) → from ≤ mid → AreFates mid history events to → AreFates from history events to
 AreFates-from from mid to history [] le h = omega arith
@@ -92,8 +92,8 @@ both_told (Some x) P Q R f p q = f p q
 module _ {D : Type 0} (told : D → Option (List ℕ)) (may_leave : D → List ℕ → Type 0) (faults : D → ℕ) where
   -- one line more was taken in
   pub follows_on : (e new : EngineView D) (from : ℕ) (first : List Entry) (events : List (List ℕ × Fate)) (line : List ℕ) (fate : Fate)
-      → Follows told may_leave faults e from first events → Becomes told may_leave faults e new (history_onto first events) line fate
-      → Follows told may_leave faults new from first (events ++ (line, fate) ∷ [])
+      → StandsBehind told may_leave faults e from first events → Becomes told may_leave faults e new (history_onto first events) line fate
+      → StandsBehind told may_leave faults new from first (events ++ (line, fate) ∷ [])
   follows_on e new from first events line fate f b =
       let event : List ℕ × Fate = (line, fate) in
       let undamaged = both_told (told e.log.disk) (AreUndamaged events) (IsUndamaged fate) (AreUndamaged (events ++ event ∷ []))

@@ -12,14 +12,14 @@ use Rattle.plain_store.specs.Policy.{the_metric}
 use Rattle.plain_store.specs.Reply.{added, turns_or_look}
 use Rattle.plain_store.specs.Fate.{Fate, Answered, Failed, Unopened, Starved, own, uses_log, IsOpening, IsFate, IsCounted, HasReply}
 use Rattle.gnocchi_cmd.specs.Line.{request_of}
-use Rattle.gnocchi_cmd.specs.Session.{lines_of, entries_of, AreFates, AreAnswered}
+use Rattle.gnocchi_cmd.specs.Session.{lines_of, entries_added, AreFates, AreAnswered}
 
 -- the count only goes on
 rises : (from to : ℕ) (history : List Entry) (events : List (List ℕ × Fate)) → AreFates from history events to → from ≤ to
 rises from to history [] h = h
 rises from to history (e ∷ events) h =
     let a = h.1.1 in
-    let b = rises h.1.0 to (history ++ entries_of history e) events h.1.3 in
+    let b = rises h.1.0 to (history ++ entries_added history e) events h.1.3 in
     omega arith
 
 -- what a request adds opens no fault
@@ -67,7 +67,7 @@ pub calm : (from to : ℕ) (history : List Entry) (events : List (List ℕ × Fa
 calm from to history [] sound fates quiet answered = refl
 calm from to history (e ∷ events) sound fates quiet answered =
     let mid = fates.1.0 in
-    let next = history ++ entries_of history e in
+    let next = history ++ entries_added history e in
     let later = rises mid to next events fates.1.3 in
     let plain : e.1 ≡ Answered None =
     quiet_answer from mid to history e.0 e.1 sound later quiet fates.0 fates.1.2 (All-head (λ (x : List ℕ × Fate). HasReply x.1) e events answered) in

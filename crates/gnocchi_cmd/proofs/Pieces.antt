@@ -9,7 +9,7 @@ use Rattle.plain_store.specs.Engine.{EngineView, StandsFor}
 use Rattle.plain_store.specs.Fate.{Fate, IsUndamaged, HasReply}
 use Rattle.gnocchi_cmd.specs.declared.stop.Stop.{Stop}
 use Rattle.gnocchi_cmd.specs.declared.stop.Stop.TheVariants.{Input, Read, Write, Memory, TooMuch}
-use Rattle.gnocchi_cmd.specs.Progress.{Reached, IsRefused, IsUnfinished, IsAnswered, Stopped, Halted, Ended, Finished, Advances, IsOfPiece}
+use Rattle.gnocchi_cmd.specs.Progress.{Reached, IsRefused, IsUnfinished, AreReplied, Stopped, Halted, Ended, Finished, Advances, IsOfPiece}
 use Rattle.gnocchi_cmd.specs.Script.{ended}
 use Rattle.gnocchi_cmd.specs.Session.{lines_of, AreUndamaged}
 use Rattle.gnocchi_cmd.proofs.Feeding.{no_lines, empty_line, but_last}
@@ -36,7 +36,7 @@ early Write read write h = tt
 early Memory read write h = tt
 early TooMuch read write h = h
 
-refused : (first : List Entry) (events : List (List ℕ × Fate)) (seen out : List ℕ) → IsRefused first events seen out → IsUnfinished seen (lines_of events) × IsAnswered first events out
+refused : (first : List Entry) (events : List (List ℕ × Fate)) (seen out : List ℕ) → IsRefused first events seen out → IsUnfinished seen (lines_of events) × AreReplied first events out
 refused first events seen out f = (
   record { rest = f.rest; whole = f.whole; each = f.each; more = let o = f.long.over in omega arith; no_line = f.long.no_feed },
   record { answered = f.answered; written = f.written },

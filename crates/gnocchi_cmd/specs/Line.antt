@@ -7,7 +7,7 @@ use Rattle.archive_policy.specs.declared.kind.Kind.TheVariants.{Mean, Count}
 use Rattle.series_model.specs.declared.measure.Measure.{Measure}
 use Rattle.plain_store.specs.declared.request.Request.{Request}
 use Rattle.plain_store.specs.declared.request.Request.TheVariants.{Nothing, Work, Post, Get, Other}
-use Rattle.gnocchi_cmd.specs.Numbers.{◌>>=◌, after}
+use Rattle.gnocchi_cmd.specs.Numbers.{◌>>=◌, behind_text}
 use Rattle.gnocchi_cmd.specs.Measures.{measures_in}
 use Rattle.plain_store.specs.Policy.{minute, five_minutes}
 
@@ -24,7 +24,7 @@ post_or_other (Some measures) = Post measures
 -- what a line asks for that may post measures
 abbrev pub post_of : List ℕ → Request
 post_of line =
-    post_or_other (after (codes "POST /v1/metric/00000001-0000-8000-8000-000000000001/measures ") line >>= measures_in)
+    post_or_other (behind_text (codes "POST /v1/metric/00000001-0000-8000-8000-000000000001/measures ") line >>= measures_in)
 
 -- the line of a query
 abbrev pub query_text : List ℕ → List ℕ → List ℕ

@@ -9,8 +9,8 @@ abbrev pub ◌>>=◌ : {A B : Type 0} → Option A → (A → Option B) → Opti
 o >>= f = option_and_then f o
 
 -- what follows a text that stands at the front
-abbrev pub after : List ℕ → List ℕ → Option (List ℕ)
-after text bytes =
+abbrev pub behind_text : List ℕ → List ℕ → Option (List ℕ)
+behind_text text bytes =
     if bytes_eq (take (length text) bytes) text then Some (drop (length text) bytes) else None
 
 -- the number that the digits at the front go on with, behind those of n, and what follows them
@@ -35,14 +35,14 @@ abbrev pub whole_up_to : ℕ → List ℕ → Option (ℕ × List ℕ)
 whole_up_to most bytes = whole_at bytes >>= at_most most
 
 -- whole seconds, as nanoseconds
-unfoldable pub stamp_at : List ℕ → Option (ℕ × List ℕ)
-stamp_at bytes = option_map (λ x. (x.0 * 10 ^ 9, x.1)) (whole_up_to 8999999999 bytes)
+unfoldable pub seconds_at : List ℕ → Option (ℕ × List ℕ)
+seconds_at bytes = option_map (λ x. (x.0 * 10 ^ 9, x.1)) (whole_up_to 8999999999 bytes)
 
 -- a magnitude as units, negative behind a `-`
-abbrev pub signed_at : Option (List ℕ) → List ℕ → Option (ℤ × List ℕ)
-signed_at None bytes = option_map (λ x. (pos (x.0 * 10 ^ 6), x.1)) (whole_up_to (10 ^ 12) bytes)
-signed_at (Some rest) bytes = option_map (λ x. (neg_ℤ (pos (x.0 * 10 ^ 6)), x.1)) (whole_up_to (10 ^ 12) rest)
+abbrev pub magnitude_at : Option (List ℕ) → List ℕ → Option (ℤ × List ℕ)
+magnitude_at None bytes = option_map (λ x. (pos (x.0 * 10 ^ 6), x.1)) (whole_up_to (10 ^ 12) bytes)
+magnitude_at (Some rest) bytes = option_map (λ x. (neg_ℤ (pos (x.0 * 10 ^ 6)), x.1)) (whole_up_to (10 ^ 12) rest)
 
 -- a whole number with an optional `-`, as units
-unfoldable pub value_at : List ℕ → Option (ℤ × List ℕ)
-value_at bytes = signed_at (after (codes "-") bytes) bytes
+unfoldable pub units_at : List ℕ → Option (ℤ × List ℕ)
+units_at bytes = magnitude_at (behind_text (codes "-") bytes) bytes

@@ -12,7 +12,7 @@ use Rattle.gnocchi_cmd.specs.Session.{lines_of, history_onto, transcript, AreFat
 
 -- The engine stands for the history that the lines make from the first one on, with fates that they
 -- may have while the count of faults went on from this value.
-pub record Follows {D : Type 0} (told : D → Option (List ℕ)) (may_leave : D → List ℕ → Type 0) (faults : D → ℕ) (e : EngineView D) (from : ℕ) (first : List Entry) (events : List (List ℕ × Fate)) : Type 0 where
+pub record StandsBehind {D : Type 0} (told : D → Option (List ℕ)) (may_leave : D → List ℕ → Type 0) (faults : D → ℕ) (e : EngineView D) (from : ℕ) (first : List Entry) (events : List (List ℕ × Fate)) : Type 0 where
   pub stands : StandsFor told may_leave e (history_onto first events)
   pub fates : AreFates from first events (faults e.log.disk)
   pub undamaged : IfSome (told e.log.disk) (λ _. AreUndamaged events)
@@ -21,7 +21,7 @@ pub record Follows {D : Type 0} (told : D → Option (List ℕ)) (may_leave : D 
 -- history that the lines make, and their replies were written.
 pub record Reached {D : Type 0} (told : D → Option (List ℕ)) (may_leave : D → List ℕ → Type 0) (faults : D → ℕ) (e : EngineView D) (part : List ℕ) (from : ℕ) (first : List Entry) (seen out : List ℕ) : Type 0 where
   pub events : List (List ℕ × Fate)
-  pub follows : Follows told may_leave faults e from first events
+  pub follows : StandsBehind told may_leave faults e from first events
   pub whole : seen ≡ flat_map ended (lines_of events) ++ part
   pub each : All IsLine (lines_of events)
   pub part_is : IsLine part
@@ -62,7 +62,7 @@ Stopped TooMuch first events seen out = IsFront first events seen out
 -- the lines stopped being answered, and the engine stands for what they made
 pub record Halted {D : Type 0} (told : D → Option (List ℕ)) (may_leave : D → List ℕ → Type 0) (faults : D → ℕ) (e : EngineView D) (stop : Stop) (from : ℕ) (first : List Entry) (seen out : List ℕ) : Type 0 where
   pub events : List (List ℕ × Fate)
-  pub follows : Follows told may_leave faults e from first events
+  pub follows : StandsBehind told may_leave faults e from first events
   pub stopped : Stopped stop first events seen out
 
 -- a stop within a line
@@ -107,13 +107,13 @@ pub record IsUnfinished (input : List ℕ) (lines : List (List ℕ)) : Type 0 wh
   pub no_line : All (λ b. b ≢ 10) (take 1048577 rest)
 
 -- what was written are the replies to all of the lines
-pub record IsAnswered (first : List Entry) (events : List (List ℕ × Fate)) (out : List ℕ) : Type 0 where
+pub record AreReplied (first : List Entry) (events : List (List ℕ × Fate)) (out : List ℕ) : Type 0 where
   pub answered : AreAnswered events
   pub written : out ≡ transcript first events
 
 -- what was written of an input where the lines stop being answered
 abbrev pub Ended : Stop → List Entry → List (List ℕ × Fate) → List ℕ → List ℕ → Type 0
-Ended Input first events input out = IsUnfinished input (lines_of events) × IsAnswered first events out
+Ended Input first events input out = IsUnfinished input (lines_of events) × AreReplied first events out
 Ended Read first events input out = IsFront first events input out
 Ended Write first events input out = IsFront first events input out
 Ended Memory first events input out = IsFront first events input out
@@ -122,7 +122,7 @@ Ended TooMuch first events input out = IsFront first events input out × (2 ^ 40
 -- the lines of the input stopped being answered, and the engine stands for what they made
 pub record Finished {D : Type 0} (told : D → Option (List ℕ)) (may_leave : D → List ℕ → Type 0) (faults : D → ℕ) (e : EngineView D) (stop : Stop) (from : ℕ) (first : List Entry) (input out : List ℕ) : Type 0 where
   pub events : List (List ℕ × Fate)
-  pub follows : Follows told may_leave faults e from first events
+  pub follows : StandsBehind told may_leave faults e from first events
   pub ended : Ended stop first events input out
 
 -- wherever one state stood, after these bytes another one stands, and what is between was written

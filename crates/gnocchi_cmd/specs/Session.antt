@@ -12,8 +12,8 @@ abbrev pub lines_of : List (List ℕ × Fate) → List (List ℕ)
 lines_of events = map (λ event. event.0) events
 
 -- the entries that a line adds to a history
-abbrev pub entries_of : List Entry → List ℕ × Fate → List Entry
-entries_of history event = own history (request_of event.0) event.1
+abbrev pub entries_added : List Entry → List ℕ × Fate → List Entry
+entries_added history event = own history (request_of event.0) event.1
 
 -- the reply to a line
 abbrev pub reply_to : List Entry → List ℕ × Fate → List ℕ
@@ -22,12 +22,12 @@ reply_to history event = answer_to history (request_of event.0) event.1
 -- the history after these lines, from one on
 abbrev pub history_onto : List Entry → List (List ℕ × Fate) → List Entry
 history_onto history [] = history
-history_onto history (event ∷ events) = history_onto (history ++ entries_of history event) events
+history_onto history (event ∷ events) = history_onto (history ++ entries_added history event) events
 
 -- the replies to these lines, from a history on
 abbrev pub transcript : List Entry → List (List ℕ × Fate) → List ℕ
 transcript history [] = []
-transcript history (event ∷ events) = reply_to history event ++ transcript (history ++ entries_of history event) events
+transcript history (event ∷ events) = reply_to history event ++ transcript (history ++ entries_added history event) events
 
 -- Each fate is one that its line may have after those before it, and the count of faults goes from
 -- one value to another through those that the fates name.
@@ -35,7 +35,7 @@ abbrev pub AreFates : ℕ → List Entry → List (List ℕ × Fate) → ℕ →
 AreFates from history [] to = from ≤ to
 AreFates from history (event ∷ events) to =
     IsFate history (request_of event.0) event.1
-    × ((mid : ℕ) × (from ≤ mid) × IsCounted from event.1 mid × AreFates mid (history ++ entries_of history event) events to)
+    × ((mid : ℕ) × (from ≤ mid) × IsCounted from event.1 mid × AreFates mid (history ++ entries_added history event) events to)
 
 -- each line has a reply
 abbrev pub AreAnswered : List (List ℕ × Fate) → Type 0

@@ -14,7 +14,7 @@ use Rattle.gnocchi_cmd.specs.declared.command.Command.{Command}
 use Rattle.gnocchi_cmd.specs.declared.command.Command.TheVariants.{Replay, Memory as CommandMemory}
 use Rattle.gnocchi_cmd.specs.declared.stop.Stop.{Stop}
 use Rattle.gnocchi_cmd.specs.declared.stop.Stop.TheVariants as stops
-use Rattle.gnocchi_cmd.specs.Progress.{IsAnswered, IsUnfinished, IsFront}
+use Rattle.gnocchi_cmd.specs.Progress.{AreReplied, IsUnfinished, IsFront}
 use Rattle.gnocchi_cmd.specs.Script.{AreLines}
 use Rattle.gnocchi_cmd.specs.Session.{lines_of, history_onto, AreFates, AreUndamaged}
 
@@ -36,9 +36,9 @@ status_after (Err stop) = status_of stop
 -- input ends inside, were written. At 12 the input has 2^40 bytes or more. At every status what was
 -- written is a front of the replies.
 abbrev pub Outcome : Status → List Entry → List (List ℕ × Fate) → List ℕ → List ℕ → Type 0
-Outcome Done first events input out = AreLines input (lines_of events) × IsAnswered first events out
+Outcome Done first events input out = AreLines input (lines_of events) × AreReplied first events out
 Outcome Usage first events input out = ⊥
-Outcome Input first events input out = IsUnfinished input (lines_of events) × IsAnswered first events out
+Outcome Input first events input out = IsUnfinished input (lines_of events) × AreReplied first events out
 Outcome Read first events input out = IsFront first events input out
 Outcome Write first events input out = IsFront first events input out
 Outcome Disk first events input out = ⊥
@@ -61,7 +61,7 @@ pub record Ran {D : Type 0} (told : D → Option (List ℕ)) (may_leave : D → 
   pub images : IfSome (told new) (λ _. (image : List ℕ) → may_leave new image → IsDurable (history_onto first events) image)
 
 -- No store was made: the disk or memory failed. A stop leaves what it might have left before, the
--- bytes that were read, no record, or the empty store.
+-- bytes that were read, no log, or the empty store.
 pub record IsUncreated {D : Type 0} (told : D → Option (List ℕ)) (may_leave : D → List ℕ → Type 0) (old new : D) (status : Status) (out : List ℕ) : Type 0 where
   pub silent : out ≡ []
   pub status_is : (status ≡ Disk) ⊎ (status ≡ Memory)

@@ -2,7 +2,7 @@
 ghost use Rattle.std.specs.Prelude.{◌≡◌, ◌≤◌, [], length, IfOk, IfSome};
 ghost use Rattle.std.specs.Option.{option_map};
 ghost use Rattle.std.specs.Str.{bytes_eq};
-ghost use Rattle.gnocchi_cmd.specs.Measures.{measure_at, objects_onto, measures_in};
+ghost use Rattle.gnocchi_cmd.specs.Measures.{object_at, objects_onto, measures_in};
 ghost use Rattle.gnocchi_cmd.specs.Line.{request_of, query_of, post_of};
 
 use crate::number::{after, nanos, units};
@@ -22,9 +22,9 @@ fn is(bytes: &[u8], text: &str) -> bool
 }
 
 /// The measure at the front, and what follows it.
-#[tactic(auto, unfolding(crate::specs::Measures::measure_at))]
+#[tactic(auto, unfolding(crate::specs::Measures::object_at))]
 fn measure(bytes: &[u8]) -> Option<(Measure, &[u8])>
-    ensures { option_map (λ x. (x.0, x.1.now)) result ≡ measure_at bytes.now }
+    ensures { option_map (λ x. (x.0, x.1.now)) result ≡ object_at bytes.now }
 {
     let rest = after("{\"timestamp\":", bytes)?;
     let (at, rest) = nanos(rest)?;

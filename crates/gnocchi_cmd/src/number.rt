@@ -1,7 +1,7 @@
 // Whole numbers in script lines.
 ghost use Rattle.std.specs.Prelude.{◌≡◌, ◌≤◌, ◌<◌, ◌*◌, ◌^◌, IfSome, unsigned_abs};
 ghost use Rattle.std.specs.Option.{option_map};
-ghost use Rattle.gnocchi_cmd.specs.Numbers.{after, at_most, digits_onto, whole_up_to, stamp_at, value_at};
+ghost use Rattle.gnocchi_cmd.specs.Numbers.{behind_text, at_most, digits_onto, whole_up_to, seconds_at, units_at};
 
 const MOST_SECONDS: u64 = 8_999_999_999;
 
@@ -13,7 +13,7 @@ const UNITS_PER_ONE: u64 = 1_000_000;
 
 /// What follows a text that stands at the front.
 pub fn after<'a>(text: &str, bytes: &'a [u8]) -> Option<&'a [u8]>
-    ensures { option_map (λ rest. rest.now) result ≡ after text.now bytes.now }
+    ensures { option_map (λ rest. rest.now) result ≡ behind_text text.now bytes.now }
 {
     bytes.strip_prefix(text.as_bytes())
 }
@@ -56,9 +56,9 @@ fn whole(bytes: &[u8], most: u64) -> Option<(u64, &[u8])>
 }
 
 /// The whole seconds at the front, at most 8,999,999,999, as nanoseconds, and what follows them.
-#[tactic(auto, unfolding(crate::specs::Numbers::stamp_at))]
+#[tactic(auto, unfolding(crate::specs::Numbers::seconds_at))]
 pub fn nanos(bytes: &[u8]) -> Option<(u64, &[u8])>
-    ensures value { option_map (λ x. (x.0, x.1.now)) result ≡ stamp_at bytes.now }
+    ensures value { option_map (λ x. (x.0, x.1.now)) result ≡ seconds_at bytes.now }
     ensures limit { IfSome result (λ x. x.0 < 9 * 10 ^ 18) }
 {
     let (seconds, rest) = whole(bytes, MOST_SECONDS)?;
@@ -67,9 +67,9 @@ pub fn nanos(bytes: &[u8]) -> Option<(u64, &[u8])>
 
 /// The whole number at the front, with an optional `-` and a magnitude of at most 10^12, in units
 /// of 10^-6, and what follows it.
-#[tactic(auto, unfolding(crate::specs::Numbers::value_at))]
+#[tactic(auto, unfolding(crate::specs::Numbers::units_at))]
 pub fn units(bytes: &[u8]) -> Option<(i64, &[u8])>
-    ensures value { option_map (λ x. (x.0, x.1.now)) result ≡ value_at bytes.now }
+    ensures value { option_map (λ x. (x.0, x.1.now)) result ≡ units_at bytes.now }
     ensures limit { IfSome result (λ x. unsigned_abs x.0 ≤ 10 ^ 18) }
 {
     match after("-", bytes) {

@@ -4,7 +4,7 @@ use Rattle.series_model.specs.declared.measure.Measure.{Measure}
 use Rattle.series_model.specs.History.{Entry, Post, Done, posts_of, post_count, done_number}
 use Rattle.series_model.specs.Kept.{kept, open_tried, is_broken}
 use Rattle.gate_log.specs.LogView.{LogView}
-use Rattle.gate_log.specs.Records.{Holds, HoldsNone}
+use Rattle.gate_log.specs.Records.{Holds, HasNoLog}
 use Rattle.plain_store.specs.declared.tried.Tried.{Tried}
 use Rattle.plain_store.specs.declared.tried.Tried.TheVariants as tries
 use Rattle.plain_store.specs.declared.tried.OpenFault.{OpenFault}
@@ -74,6 +74,6 @@ pub record StandsFor {D : Type 0} (told : D → Option (List ℕ)) (may_leave : 
   pub images : IfSome (told e.log.disk) (λ _. (image : List ℕ) → may_leave e.log.disk image → IsDurable history image)
 
 -- What a creating that failed may leave: what a stop might have left before it, the bytes that were
--- read before, no record, or the empty store.
+-- read before, no log, or the empty store.
 abbrev pub IsUnmade : (List ℕ → Type 0) → List ℕ → List ℕ → Type 0
-IsUnmade before bytes image = ((before image ⊎ (image ≡ bytes)) ⊎ HoldsNone image) ⊎ Holds image (history_records [])
+IsUnmade before bytes image = ((before image ⊎ (image ≡ bytes)) ⊎ HasNoLog image) ⊎ Holds image (history_records [])

@@ -15,8 +15,8 @@ abbrev pub five_minutes : Definition
 five_minutes = record { granularity = 300 * 10 ^ 9; points = 12 }
 
 -- the largest granularity
-abbrev pub largest : ℕ
-largest = 300 * 10 ^ 9
+abbrev pub largest_span : ℕ
+largest_span = 300 * 10 ^ 9
 
 -- the back window
 abbrev pub back : ℕ

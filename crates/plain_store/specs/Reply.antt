@@ -9,7 +9,7 @@ use Rattle.series_model.specs.Kept.{kept}
 use Rattle.series_model.specs.declared.measure.Measure.{Measure}
 use Rattle.plain_store.specs.declared.request.Request.{Request}
 use Rattle.plain_store.specs.declared.request.Request.TheVariants as asked
-use Rattle.plain_store.specs.Policy.{the_metric, largest, back}
+use Rattle.plain_store.specs.Policy.{the_metric, largest_span, back}
 
 -- the turns, or a look where there was none to take
 abbrev pub turns_or_look : List Entry → List Entry
@@ -35,7 +35,7 @@ turn_count (Reopened kept ∷ entries) = turn_count entries
 
 -- the measures that were accepted by a history: those of its processed batches
 abbrev pub accepted_by : List Entry → List Measure
-accepted_by history = accepted_of largest back (processed_batches the_metric (kept history))
+accepted_by history = accepted_of largest_span back (processed_batches the_metric (kept history))
 
 -- the reply to a request, by the entries that it added and the history up to the last of them
 abbrev pub reply : Request → List Entry → List Entry → List ℕ

@@ -58,7 +58,7 @@ impl<D: Disk> Engine<D> {
         ensures whole { IfOk result (λ engine. engine.fault ≡ None) }
         ensures told { IfOk result (λ engine. is_some (D.told engine.log.disk) ≡ is_some (D.told disk)) }
         ensures later { IfOk result (λ engine. D.faults disk ≤ D.faults engine.log.disk) }
-        // A creating that fails leaves what there was, no record, or the empty store.
+        // A creating that fails leaves what there was, no log, or the empty store.
         ensures images { IfErr result (λ e. IfSome (D.told disk) (λ bytes. (image : List ℕ)
             → D.may_leave e.0 image → IsUnmade (D.may_leave disk) bytes image)) }
         ensures told_still { IfErr result (λ e. is_some (D.told e.0) ≡ is_some (D.told disk)) }

@@ -1,7 +1,7 @@
 // The posts and the done number that a log's records make.
 ghost use Rattle.std.specs.Prelude.{◌≡◌, ◌≤◌, ◌<◌, ◌+◌, ◌^◌, ℕ, [], ⊤, IfOk, IfErr, IfSome, IfNone, OnOk, Some, slice_get, length, false};
 ghost use Rattle.gno_disk.specs.Disk.{NoMore};
-ghost use Rattle.gate_log.specs.LogView.{IsDurable, IsFault, MatchMountFault};
+ghost use Rattle.gate_log.specs.LogView.{IsLasting, IsFault, MatchMountFault};
 ghost use Rattle.gno_num.specs.Faults.{Rose};
 ghost use Rattle.plain_store.specs.Policy.{the_metric};
 ghost use Rattle.plain_store.specs.Records.{done_bytes, IsOddAt};
@@ -65,7 +65,7 @@ fn read_record<D: Disk>(alloc: Global, log: &mut Log<D>, index: u64) -> Result<V
     ensures records { log.new.records ≡ log.old.records }
     ensures count { log.new.count ≡ log.old.count }
     ensures ok { OnOk result (log.new.broken ≡ false) }
-    ensures durable { OnOk result (IsDurable D.may_leave log.new) }
+    ensures durable { OnOk result (IsLasting D.Disk log.new) }
     ensures told { D.told log.new.disk ≡ D.told log.old.disk }
     ensures no_more { NoMore (D.may_leave log.old.disk) (D.may_leave log.new.disk) }
     ensures later { D.faults log.old.disk ≤ D.faults log.new.disk }
@@ -95,7 +95,7 @@ fn load_one<D: Disk>(
     ensures loaded { OnOk result (IsLoaded log.old.records (index + 1) posts.new.items done.new) }
     ensures placed { OnOk result (IsPlaced log.old.records (index + 1) at.new) }
     ensures fits { OnOk result ((log.new.broken ≡ false) × (log.new.count ≡ log.old.count)) }
-    ensures durable { OnOk result (IsDurable D.may_leave log.new) }
+    ensures durable { OnOk result (IsLasting D.Disk log.new) }
     ensures records { log.new.records ≡ log.old.records }
     ensures told { D.told log.new.disk ≡ D.told log.old.disk }
     ensures no_more { NoMore (D.may_leave log.old.disk) (D.may_leave log.new.disk) }
@@ -125,7 +125,7 @@ fn load_header<D: Disk>(alloc: Global, log: &mut Log<D>) -> Result<(), MountFaul
     ensures loaded { OnOk result (IsLoaded log.old.records 1 [] 0) }
     ensures placed { OnOk result (IsPlaced log.old.records 1 27) }
     ensures fits { OnOk result ((0 < log.old.count) × (log.new.broken ≡ false)) }
-    ensures durable { OnOk result (IsDurable D.may_leave log.new) }
+    ensures durable { OnOk result (IsLasting D.Disk log.new) }
     ensures records { log.new.records ≡ log.old.records }
     ensures count { log.new.count ≡ log.old.count }
     ensures told { D.told log.new.disk ≡ D.told log.old.disk }
@@ -151,7 +151,7 @@ pub fn load<D: Disk>(alloc: Global, log: &mut Log<D>) -> Result<(Vec<Batch>, u64
     ensures loaded { IfOk result (λ loaded. IsLoaded log.old.records log.old.count loaded.0.items loaded.1) }
     ensures whole { OnOk result (log.new.broken ≡ false) }
     ensures length { IfSome log.old.records (λ records. length records ≡ log.old.count) }
-    ensures durable { OnOk result (IsDurable D.may_leave log.new) }
+    ensures durable { OnOk result (IsLasting D.Disk log.new) }
     ensures records { log.new.records ≡ log.old.records }
     ensures told { D.told log.new.disk ≡ D.told log.old.disk }
     ensures no_more { NoMore (D.may_leave log.old.disk) (D.may_leave log.new.disk) }

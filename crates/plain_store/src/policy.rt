@@ -1,6 +1,6 @@
 // The one metric of the store and its policy.
 ghost use Rattle.std.specs.Prelude.{◌≡◌};
-ghost use Rattle.plain_store.specs.Policy.{the_metric, largest, minute, five_minutes};
+ghost use Rattle.plain_store.specs.Policy.{the_metric, largest_span, minute, five_minutes};
 
 use archive_policy::{Definition, Kind};
 use gno_num::Span;
@@ -35,7 +35,7 @@ pub fn by_five_minutes() -> Definition
 
 /// Five minutes.
 pub fn largest_granularity() -> Span
-    ensures { result ≡ largest }
+    ensures { result ≡ largest_span }
 {
     by_five_minutes().granularity
 }

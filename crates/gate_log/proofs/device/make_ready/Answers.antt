@@ -1,18 +1,16 @@
-use Rattle.std.proofs.Common.{◌≡◌, length, inr, rules}
-use Rattle.gno_disk.specs.Disk.{LooseCut, Told}
-use Rattle.gate_log.specs.Steps.{IsNoLog, OldOrNone}
-use Rattle.gate_log.proofs.Bytes.{cut_none}
-use Rattle.gate_log.proofs.Moments.{leaves_then}
+use Rattle.std.proofs.Common.{inl, inr}
+use Rattle.gate_log.specs.Steps.{OldOrNone}
+use Rattle.gate_log.proofs.Moments.{on_ok, remade_from}
 use Rattle.gate_log.proofs.device.make_ready.Goals as goal
 
-pub returns-in_err-cut_through-clause-any_moment : goal.returns-in_err-cut_through-clause-any_moment
-returns-in_err-cut_through-clause-any_moment g c =
-    let over : Told (λ _ new. IsNoLog new) (g.D.Disk.told c.args.disk.now) (g.D.Disk.told c.close_first_gate.new.disk) = search rules in
-    leaves_then g.D.Disk.told g.D.Disk.size g.D.Disk.may_leave g.D.Disk.moment g.D.Disk.left_since g.met.D.Disk.only_now _ _ _ (λ _ new. IsNoLog new) (LooseCut 1) OldOrNone (λ bytes. length bytes ≡ g.D.Disk.size c.args.disk.now) (g.met.D.Disk.whole c.args.disk.now)
-    c.close_first_gate.ensures.any_moment over (λ b d image h closed cut. inr (cut_none d image closed cut)) c.cut_through.ensures.any_moment
+pub returns-in_err-sync_all-clause-any_moment : goal.returns-in_err-sync_all-clause-any_moment
+returns-in_err-sync_all-clause-any_moment g c = inl c.sync_all.ensures.untouched.leaves
 
-pub returns-in_ok-cut_through-clause-any_moment : goal.returns-in_ok-cut_through-clause-any_moment
-returns-in_ok-cut_through-clause-any_moment g c =
-    let over : Told (λ _ new. IsNoLog new) (g.D.Disk.told c.args.disk.now) (g.D.Disk.told c.close_first_gate.new.disk) = search rules in
-    leaves_then g.D.Disk.told g.D.Disk.size g.D.Disk.may_leave g.D.Disk.moment g.D.Disk.left_since g.met.D.Disk.only_now _ _ _ (λ _ new. IsNoLog new) (LooseCut 1) OldOrNone (λ bytes. length bytes ≡ g.D.Disk.size c.args.disk.now) (g.met.D.Disk.whole c.args.disk.now)
-    c.close_first_gate.ensures.any_moment over (λ b d image h closed cut. inr (cut_none d image closed cut)) c.cut_through.ensures.any_moment
+pub returns-clause-any_moment : goal.returns-clause-any_moment
+returns-clause-any_moment g c = inr (remade_from g.D.Disk g.met.D.Disk.only_now _ _ _ OldOrNone c.sync_all.ensures.untouched c.leave_one_gate.ensures.any_moment)
+
+pub returns-clause-remade : goal.returns-clause-remade
+returns-clause-remade g c = on_ok _ (remade_from g.D.Disk g.met.D.Disk.only_now _ _ _ OldOrNone c.sync_all.ensures.untouched c.leave_one_gate.ensures.any_moment)
+
+pub returns-clause-came : goal.returns-clause-came
+returns-clause-came g c = g.met.D.Disk.came_then 1 4 _ _ _ c.sync_all.ensures.came c.leave_one_gate.ensures.came

@@ -2,4 +2,4 @@ use Rattle.gate_log.proofs.Moments.{untouched_call}
 use Rattle.gate_log.proofs.device.sync_all.Goals as goal
 
 pub returns-clause-untouched : goal.returns-clause-untouched
-returns-clause-untouched g c = untouched_call g.D.Disk.told g.D.Disk.size g.D.Disk.may_leave g.D.Disk.moment g.D.Disk.left_since g.met.D.Disk.only_now _ _ c.sync.ensures.told c.sync.ensures.size c.sync.ensures.crash c.sync.ensures.time
+returns-clause-untouched g c = untouched_call g.D.Disk g.met.D.Disk.only_now _ _ c.sync.ensures.told c.sync.ensures.size c.sync.ensures.crash c.sync.ensures.time

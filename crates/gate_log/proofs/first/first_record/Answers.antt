@@ -6,7 +6,7 @@ use Rattle.gate_log.proofs.first.first_record.Goals as goal
 pub returns-clause-found : goal.returns-clause-found
 returns-clause-found g c =
     let old = c.args.disk.now in
-    let place = c.in-Some.place in
+    let place = c.in-Ok-Some.place in
     let at : place.at ≡ 9 = search rules in
     let fits : place.at + place.len < g.D.Disk.size old = search rules in
     let is : IfSome (g.D.Disk.told old) (IsRecordAt 0 place) = search rules in

@@ -1,7 +1,7 @@
 use Rattle.std.proofs.Common.{◌+◌, ℕ, List, length, slice_index, sym, ap, ◌∙◌, arith}
 use Rattle.std.proofs.lemmas.List.{length_push}
 use Rattle.gno_disk.specs.Inside.{state_of}
-use Rattle.gno_disk.specs.Stop.{next_draw, after_turn, before_turn, byte_drawn}
+use Rattle.gno_disk.specs.Stop.{next_draw, after_place, before_turn, byte_drawn}
 use Rattle.gno_disk.proofs.StopLemmas.{before_turn-zero, before_turn-next, each-push}
 use Rattle.gno_disk.proofs.stop.draw_image.Goals as goal
 
@@ -24,6 +24,6 @@ loop-place-preserved c =
     let items = c.in_ok-push.ensures.items in
     record {
       size = ap length items ∙ length_push _ _ ∙ ap (λ (n : ℕ). n + 1) so_far.size;
-      turn = c.image_byte.ensures.state ∙ ap (λ (y : ℕ). after_turn s y i) so_far.turn ∙ sym (before_turn-next s x i);
+      turn = c.image_byte.ensures.state ∙ ap (λ (y : ℕ). after_place s y i) so_far.turn ∙ sym (before_turn-next s x i);
       each = λ k lt. ap (λ (l : List ℕ). slice_index l k) items ∙ each-push (λ k. byte_drawn s (before_turn s x k) k) _ _ i so_far.size so_far.each byte k lt;
     }

@@ -1,10 +1,11 @@
 use Rattle.std.proofs.Common.{subst, refl, ◌<◌, ◌≡◌, ◌+◌, ◌≤◌, ◌∷◌, [], ◌++◌, length, ap, ◌∙◌, rules, arith}
 use Rattle.byteorder.specs.Endian.{big_bytes}
-use Rattle.gno_disk.specs.Disk.{Overwrites, Told, LeavesOnly}
-use Rattle.gno_disk.specs.Moments.{LeavesOnly-start, LeavesOnly-weaker}
+use Rattle.gno_disk.specs.Disk.{Overwrites, Told}
+use Rattle.gno_disk.specs.Moments.{LeavesOnly}
+use Rattle.gno_disk.proofs.Moments.{LeavesOnly-start, LeavesOnly-weaker}
 use Rattle.gate_log.specs.LogView.{LogView, IsOldOrAdded}
 use Rattle.gate_log.specs.Steps.{KeepsBefore, IsSynced, PartOf}
-use Rattle.gate_log.proofs.Moments.{leaves_now}
+use Rattle.gno_disk.proofs.Moments.{leaves_now}
 use Rattle.gate_log.proofs.LogLemmas.{log_part, log_part_stands, log_stands_still, log_durable, old_or_added, told_durable, kept_written, kept_records, next_written, next_closed, next_places, next_records}
 use Rattle.gate_log.proofs.log.Log.append.Goals as goal
 
@@ -21,6 +22,8 @@ invariant_of-self-then-is_err g c =
       durable = search rules;
       body_room = search rules;
       place_room = search rules;
+      anew_room = search rules;
+      anew_places = search rules;
     }
 
 pub returns-then-is_err-clause-kept : goal.returns-then-is_err-clause-kept
@@ -47,6 +50,8 @@ invariant_of-self-2 g c =
       durable = λ _. synced;
       body_room = search rules;
       place_room = search rules;
+      anew_room = search rules;
+      anew_places = search rules;
     }
 
 pub returns-clause-added : goal.returns-clause-added
@@ -62,31 +67,31 @@ pub returns-then-is_err-clause-any_moment : goal.returns-then-is_err-clause-any_
 returns-then-is_err-clause-any_moment g c =
     let l = c.self.inside in
     let framed : c.deref.result.now ≡ big_bytes 8 (length c.args.body.now) ++ c.args.body.now ++ 0 ∷ [] = c.deref.ensures.value ∙ c.in_ok-fill_frame.ensures.bytes in
-    subst (λ (d : _). LeavesOnly g.D.Disk.moment g.D.Disk.left_since d c.write_record.new.disk (IsOldOrAdded c.args.self.now.records c.args.body.now)) (ap (λ (v : LogView _). v.disk) c.self.view_is)
-    (LeavesOnly-weaker g.D.Disk.moment g.D.Disk.left_since l.disk c.write_record.new.disk _ (IsOldOrAdded c.args.self.now.records c.args.body.now)
-    (log_part g.D.Disk.told g.D.Disk.size g.D.Disk.may_leave l c.args.self.now c.self.view_is c.self.invariant (g.met.D.Disk.whole l.disk) c.requires c.args.body.now c.deref.result.now framed) c.write_record.ensures.any_moment)
+    subst (λ (d : _). LeavesOnly g.D.Disk d c.write_record.new.disk (IsOldOrAdded c.args.self.now.records c.args.body.now)) (ap (λ (v : LogView _). v.disk) c.self.view_is)
+    (LeavesOnly-weaker g.D.Disk l.disk c.write_record.new.disk _ (IsOldOrAdded c.args.self.now.records c.args.body.now)
+    (log_part g.D.Disk l c.args.self.now c.self.view_is c.self.invariant (g.met.D.Disk.whole l.disk) c.requires c.args.body.now c.deref.result.now framed) c.write_record.ensures.any_moment)
 
 pub returns-clause-any_moment : goal.returns-clause-any_moment
 returns-clause-any_moment g c =
     let l = c.self.inside in
     let framed : c.deref.result.now ≡ big_bytes 8 (length c.args.body.now) ++ c.args.body.now ++ 0 ∷ [] = c.deref.ensures.value ∙ c.in_ok-fill_frame.ensures.bytes in
-    subst (λ (d : _). LeavesOnly g.D.Disk.moment g.D.Disk.left_since d c.write_record.new.disk (IsOldOrAdded c.args.self.now.records c.args.body.now)) (ap (λ (v : LogView _). v.disk) c.self.view_is)
-    (LeavesOnly-weaker g.D.Disk.moment g.D.Disk.left_since l.disk c.write_record.new.disk _ (IsOldOrAdded c.args.self.now.records c.args.body.now)
-    (log_part g.D.Disk.told g.D.Disk.size g.D.Disk.may_leave l c.args.self.now c.self.view_is c.self.invariant (g.met.D.Disk.whole l.disk) c.requires c.args.body.now c.deref.result.now framed) c.write_record.ensures.any_moment)
+    subst (λ (d : _). LeavesOnly g.D.Disk d c.write_record.new.disk (IsOldOrAdded c.args.self.now.records c.args.body.now)) (ap (λ (v : LogView _). v.disk) c.self.view_is)
+    (LeavesOnly-weaker g.D.Disk l.disk c.write_record.new.disk _ (IsOldOrAdded c.args.self.now.records c.args.body.now)
+    (log_part g.D.Disk l c.args.self.now c.self.view_is c.self.invariant (g.met.D.Disk.whole l.disk) c.requires c.args.body.now c.deref.result.now framed) c.write_record.ensures.any_moment)
 
 pub returns-in_err-fill_frame-clause-any_moment : goal.returns-in_err-fill_frame-clause-any_moment
 returns-in_err-fill_frame-clause-any_moment g c =
     let l = c.self.inside in
-    subst (λ (d : _). LeavesOnly g.D.Disk.moment g.D.Disk.left_since d l.disk (IsOldOrAdded c.args.self.now.records c.args.body.now)) (ap (λ (v : LogView _). v.disk) c.self.view_is)
-    (LeavesOnly-start g.D.Disk.moment g.D.Disk.left_since l.disk (IsOldOrAdded c.args.self.now.records c.args.body.now)
-    (λ image left. old_or_added _ c.args.body.now image (log_durable g.D.Disk.told g.D.Disk.size g.D.Disk.may_leave l c.args.self.now c.self.view_is c.self.invariant (g.met.D.Disk.whole l.disk) c.requires image (g.met.D.Disk.only_now l.disk image left))))
+    subst (λ (d : _). LeavesOnly g.D.Disk d l.disk (IsOldOrAdded c.args.self.now.records c.args.body.now)) (ap (λ (v : LogView _). v.disk) c.self.view_is)
+    (LeavesOnly-start g.D.Disk l.disk (IsOldOrAdded c.args.self.now.records c.args.body.now)
+    (λ image left. old_or_added _ c.args.body.now image (log_durable g.D.Disk l c.args.self.now c.self.view_is c.self.invariant (g.met.D.Disk.whole l.disk) c.requires image (g.met.D.Disk.only_now l.disk image left))))
 
 pub returns-in_err-reserve-clause-any_moment : goal.returns-in_err-reserve-clause-any_moment
 returns-in_err-reserve-clause-any_moment g c =
     let l = c.self.inside in
-    subst (λ (d : _). LeavesOnly g.D.Disk.moment g.D.Disk.left_since d l.disk (IsOldOrAdded c.args.self.now.records c.args.body.now)) (ap (λ (v : LogView _). v.disk) c.self.view_is)
-    (LeavesOnly-start g.D.Disk.moment g.D.Disk.left_since l.disk (IsOldOrAdded c.args.self.now.records c.args.body.now)
-    (λ image left. old_or_added _ c.args.body.now image (log_durable g.D.Disk.told g.D.Disk.size g.D.Disk.may_leave l c.args.self.now c.self.view_is c.self.invariant (g.met.D.Disk.whole l.disk) c.requires image (g.met.D.Disk.only_now l.disk image left))))
+    subst (λ (d : _). LeavesOnly g.D.Disk d l.disk (IsOldOrAdded c.args.self.now.records c.args.body.now)) (ap (λ (v : LogView _). v.disk) c.self.view_is)
+    (LeavesOnly-start g.D.Disk l.disk (IsOldOrAdded c.args.self.now.records c.args.body.now)
+    (λ image left. old_or_added _ c.args.body.now image (log_durable g.D.Disk l c.args.self.now c.self.view_is c.self.invariant (g.met.D.Disk.whole l.disk) c.requires image (g.met.D.Disk.only_now l.disk image left))))
 
 pub returns-clause-durable : goal.returns-clause-durable
 returns-clause-durable g c =
@@ -105,40 +110,50 @@ returns-clause-durable g c =
 
 pub returns-then-is_err-clause-left : goal.returns-then-is_err-clause-left
 returns-then-is_err-clause-left g c =
-    leaves_now g.D.Disk.moment g.D.Disk.left_since g.D.Disk.may_leave c.args.self.now.disk c.write_record.new.disk (IsOldOrAdded c.args.self.now.records c.args.body.now) g.met.D.Disk.counts_now (returns-then-is_err-clause-any_moment g c)
+    leaves_now g.D.Disk c.args.self.now.disk c.write_record.new.disk (IsOldOrAdded c.args.self.now.records c.args.body.now) g.met.D.Disk.counts_now (returns-then-is_err-clause-any_moment g c)
 
 pub returns-then-is_err-clause-stands : goal.returns-then-is_err-clause-stands
 returns-then-is_err-clause-stands g c =
     let l = c.self.inside in
     let framed : c.deref.result.now ≡ big_bytes 8 (length c.args.body.now) ++ c.args.body.now ++ 0 ∷ [] = c.deref.ensures.value ∙ c.in_ok-fill_frame.ensures.bytes in
     let part : Told (PartOf l.end c.deref.result.now) (g.D.Disk.told l.disk) (g.D.Disk.told c.write_record.new.disk) = search rules in
-    log_part_stands g.D.Disk.told g.D.Disk.size g.D.Disk.may_leave l c.args.self.now c.self.view_is c.self.invariant (g.met.D.Disk.whole l.disk) c.requires c.args.body.now c.deref.result.now framed (g.D.Disk.told c.write_record.new.disk) part
+    log_part_stands g.D.Disk l c.args.self.now c.self.view_is c.self.invariant (g.met.D.Disk.whole l.disk) c.requires c.args.body.now c.deref.result.now framed (g.D.Disk.told c.write_record.new.disk) part
 
 pub returns-clause-left : goal.returns-clause-left
 returns-clause-left g c =
-    leaves_now g.D.Disk.moment g.D.Disk.left_since g.D.Disk.may_leave c.args.self.now.disk c.write_record.new.disk (IsOldOrAdded c.args.self.now.records c.args.body.now) g.met.D.Disk.counts_now (returns-clause-any_moment g c)
+    leaves_now g.D.Disk c.args.self.now.disk c.write_record.new.disk (IsOldOrAdded c.args.self.now.records c.args.body.now) g.met.D.Disk.counts_now (returns-clause-any_moment g c)
 
 pub returns-clause-stands : goal.returns-clause-stands
 returns-clause-stands g c =
     let l = c.self.inside in
     let framed : c.deref.result.now ≡ big_bytes 8 (length c.args.body.now) ++ c.args.body.now ++ 0 ∷ [] = c.deref.ensures.value ∙ c.in_ok-fill_frame.ensures.bytes in
     let part : Told (PartOf l.end c.deref.result.now) (g.D.Disk.told l.disk) (g.D.Disk.told c.write_record.new.disk) = search rules in
-    log_part_stands g.D.Disk.told g.D.Disk.size g.D.Disk.may_leave l c.args.self.now c.self.view_is c.self.invariant (g.met.D.Disk.whole l.disk) c.requires c.args.body.now c.deref.result.now framed (g.D.Disk.told c.write_record.new.disk) part
+    log_part_stands g.D.Disk l c.args.self.now c.self.view_is c.self.invariant (g.met.D.Disk.whole l.disk) c.requires c.args.body.now c.deref.result.now framed (g.D.Disk.told c.write_record.new.disk) part
 
 pub returns-in_err-fill_frame-clause-left : goal.returns-in_err-fill_frame-clause-left
 returns-in_err-fill_frame-clause-left g c =
-    leaves_now g.D.Disk.moment g.D.Disk.left_since g.D.Disk.may_leave c.args.self.now.disk c.self.inside.disk (IsOldOrAdded c.args.self.now.records c.args.body.now) g.met.D.Disk.counts_now (returns-in_err-fill_frame-clause-any_moment g c)
+    leaves_now g.D.Disk c.args.self.now.disk c.self.inside.disk (IsOldOrAdded c.args.self.now.records c.args.body.now) g.met.D.Disk.counts_now (returns-in_err-fill_frame-clause-any_moment g c)
 
 pub returns-in_err-fill_frame-clause-stands : goal.returns-in_err-fill_frame-clause-stands
 returns-in_err-fill_frame-clause-stands g c =
     let l = c.self.inside in
-    log_stands_still g.D.Disk.told g.D.Disk.size g.D.Disk.may_leave l c.args.self.now c.self.view_is c.self.invariant (g.met.D.Disk.whole l.disk) c.requires c.args.body.now
+    log_stands_still g.D.Disk l c.args.self.now c.self.view_is c.self.invariant (g.met.D.Disk.whole l.disk) c.requires c.args.body.now
 
 pub returns-in_err-reserve-clause-left : goal.returns-in_err-reserve-clause-left
 returns-in_err-reserve-clause-left g c =
-    leaves_now g.D.Disk.moment g.D.Disk.left_since g.D.Disk.may_leave c.args.self.now.disk c.self.inside.disk (IsOldOrAdded c.args.self.now.records c.args.body.now) g.met.D.Disk.counts_now (returns-in_err-reserve-clause-any_moment g c)
+    leaves_now g.D.Disk c.args.self.now.disk c.self.inside.disk (IsOldOrAdded c.args.self.now.records c.args.body.now) g.met.D.Disk.counts_now (returns-in_err-reserve-clause-any_moment g c)
 
 pub returns-in_err-reserve-clause-stands : goal.returns-in_err-reserve-clause-stands
 returns-in_err-reserve-clause-stands g c =
     let l = c.self.inside in
-    log_stands_still g.D.Disk.told g.D.Disk.size g.D.Disk.may_leave l c.args.self.now c.self.view_is c.self.invariant (g.met.D.Disk.whole l.disk) c.requires c.args.body.now
+    log_stands_still g.D.Disk l c.args.self.now c.self.view_is c.self.invariant (g.met.D.Disk.whole l.disk) c.requires c.args.body.now
+
+pub returns-in_err-fill_frame-clause-came : goal.returns-in_err-fill_frame-clause-came
+returns-in_err-fill_frame-clause-came g c =
+    subst (λ (d : _). g.D.Disk.came 4 d c.self.inside.disk) (ap (λ (v : LogView _). v.disk) c.self.view_is)
+    (let le : 0 ≤ 4 = omega arith in g.met.D.Disk.came_more 0 4 _ _ le (g.met.D.Disk.came_none c.self.inside.disk))
+
+pub returns-in_err-reserve-clause-came : goal.returns-in_err-reserve-clause-came
+returns-in_err-reserve-clause-came g c =
+    subst (λ (d : _). g.D.Disk.came 4 d c.self.inside.disk) (ap (λ (v : LogView _). v.disk) c.self.view_is)
+    (let le : 0 ≤ 4 = omega arith in g.met.D.Disk.came_more 0 4 _ _ le (g.met.D.Disk.came_none c.self.inside.disk))

@@ -1,7 +1,7 @@
 use Rattle.std.proofs.Common.{◌≡◌, ℕ, List, Option, Some, IfSome, refl, sym, subst, arith}
 use Rattle.std.specs.Prelude.{option_map}
 use Rattle.gate_log.specs.Records.{Holds}
-use Rattle.gate_log.specs.Places.{bodies_at, IsWritten, IsClosed}
+use Rattle.gate_log.specs.Places.{bodies_at, AreWritten, IsClosed}
 use Rattle.gate_log.proofs.LogLemmas.{told_durable, told_exact, told_holds}
 use Rattle.gate_log.proofs.log.Log.mount.Goals as goal
 
@@ -22,7 +22,7 @@ returns-in-Ok-clause-durable g c =
     let long = same.same_size in
     let inside = found.inside in
     told_durable places c.in-Ok.end (g.D.Disk.size new) found.places (omega (arith, inside, long)) (g.D.Disk.told new) _ (g.D.Disk.may_leave new) refl (g.met.D.Disk.whole new)
-    (subst (λ (t : Option (List ℕ)). IfSome t (IsWritten places c.in-Ok.end)) (sym same.same_bytes) found.written)
+    (subst (λ (t : Option (List ℕ)). IfSome t (AreWritten places c.in-Ok.end)) (sym same.same_bytes) found.written)
     (subst (λ (t : Option (List ℕ)). IfSome t (IsClosed c.in-Ok.end)) (sym same.same_bytes) found.closed) found.durable
 
 pub returns-in-Ok-clause-exact : goal.returns-in-Ok-clause-exact

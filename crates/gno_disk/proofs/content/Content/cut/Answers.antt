@@ -1,7 +1,7 @@
 use Rattle.std.proofs.Common.{◌≡◌, ◌≤◌, List, [], ◌∷◌, ◌++◌, false, length, length-take, refl, sym, ap, subst, ◌∙◌, arith}
 use Rattle.gno_disk.specs.Content.{ContentView}
 use Rattle.gno_disk.specs.Memory.{Step, cut_to}
-use Rattle.gno_disk.specs.Images.{fresh, after_all}
+use Rattle.gno_disk.specs.Images.{State, fresh, after_all}
 use Rattle.gno_disk.specs.Inside.{state_of}
 use Rattle.gno_disk.proofs.ContentLemmas.{tracked_next, cut_Follows, state_same}
 use Rattle.gno_disk.proofs.StepLemmas.{Elapses-made}
@@ -29,7 +29,7 @@ returns-clause-crash c =
     let tracked = subst (λ (v : ContentView). after_all (fresh v.first) v.steps ≡ s) c.self.view_is c.self.invariant.tracked in
     let first = c.cut_remembered.ensures.first ∙ ap (λ (v : ContentView). v.first) c.self.view_is in
     let made = c.in_ok-cut_remembered.ensures.remembered ∙ ap (λ (steps : List Step). steps ++ (cut_to c.args.to false) ∷ []) (ap (λ (v : ContentView). v.steps) c.self.view_is) in
-    let bytes = ap (λ (v : ContentView). v.bytes) c.self.view_is in
+    let bytes = sym (ap (λ (t : State). t.bytes) tracked) in
     let inside : c.args.to ≤ length l.bytes.items = rw bytes c.requires in
     cut_Follows _ _ _ _ s first tracked c.self.invariant.least c.self.invariant.greatest c.args.to inside made
 

@@ -1,7 +1,7 @@
-use Rattle.std.proofs.Common.{◌≡◌, ◌≤◌, List, [], ◌∷◌, ◌++◌, true, length, refl, ap, subst, ◌∙◌}
+use Rattle.std.proofs.Common.{◌≡◌, ◌≤◌, List, [], ◌∷◌, ◌++◌, true, length, refl, ap, sym, subst, ◌∙◌}
 use Rattle.gno_disk.specs.Content.{ContentView}
 use Rattle.gno_disk.specs.Memory.{Step, wrote}
-use Rattle.gno_disk.specs.Images.{fresh, after_all}
+use Rattle.gno_disk.specs.Images.{State, fresh, after_all}
 use Rattle.gno_disk.specs.Inside.{state_of}
 use Rattle.gno_disk.proofs.ContentLemmas.{tracked_next, fail_write_Follows, failed_state}
 use Rattle.gno_disk.proofs.StepLemmas.{Elapses-made}
@@ -27,7 +27,7 @@ returns-clause-crash c =
     let tracked = subst (λ (v : ContentView). after_all (fresh v.first) v.steps ≡ s) c.self.view_is c.self.invariant.tracked in
     let first = ap (λ (v : ContentView). v.first) c.self.view_is in
     let made = c.in_ok-remember_failed_write.ensures.remembered ∙ ap (λ (steps : List Step). steps ++ (wrote c.args.at c.args.bytes.now true) ∷ []) (ap (λ (v : ContentView). v.steps) c.self.view_is) in
-    let bytes = ap (λ (v : ContentView). v.bytes) c.self.view_is in
+    let bytes = sym (ap (λ (t : State). t.bytes) tracked) in
     let inside : c.args.at ≤ length l.bytes.items = rw bytes c.requires in
     fail_write_Follows _ _ _ _ s first tracked c.self.invariant.least c.self.invariant.greatest c.args.at c.args.bytes.now inside made
 

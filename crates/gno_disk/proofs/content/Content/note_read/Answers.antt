@@ -4,6 +4,7 @@ use Rattle.gno_disk.specs.Memory.{Step, has_read}
 use Rattle.gno_disk.specs.Images.{fresh, after_all}
 use Rattle.gno_disk.specs.Inside.{state_of}
 use Rattle.gno_disk.proofs.ContentLemmas.{tracked_next, still_NoMore}
+use Rattle.gno_disk.proofs.ByteLemmas.{pushed_read}
 use Rattle.gno_disk.proofs.StepLemmas.{Elapses-made}
 use Rattle.gno_disk.proofs.content.Content.note_read.Goals as goal
 
@@ -31,3 +32,9 @@ returns-clause-time c =
     let first = ap (λ (v : ContentView). v.first) c.self.view_is in
     let made = c.in_ok-remember.ensures.ok ∙ ap (λ (steps : List Step). steps ++ (has_read c.args.failed) ∷ []) (ap (λ (v : ContentView). v.steps) c.self.view_is) in
     Elapses-made _ _ _ _ (has_read c.args.failed) first made
+
+pub returns-clause-bytes : goal.returns-clause-bytes
+returns-clause-bytes c =
+    let first = ap (λ (v : ContentView). v.first) c.self.view_is in
+    let made = c.in_ok-remember.ensures.ok ∙ ap (λ (steps : List Step). steps ++ (has_read c.args.failed) ∷ []) (ap (λ (v : ContentView). v.steps) c.self.view_is) in
+    pushed_read _ _ _ _ c.args.failed first made

@@ -1,7 +1,7 @@
 use Rattle.std.proofs.Common.{◌≡◌, List, [], ◌∷◌, ◌++◌, false, length, map, refl, sym, ap, subst, ◌∙◌, rules, arith}
 use Rattle.gno_disk.specs.Content.{ContentView}
 use Rattle.gno_disk.specs.Memory.{Step, synced}
-use Rattle.gno_disk.specs.Images.{fresh, after_all}
+use Rattle.gno_disk.specs.Images.{State, fresh, after_all}
 use Rattle.gno_disk.specs.Inside.{range_of, state_of}
 use Rattle.gno_disk.proofs.ContentLemmas.{tracked_next, sync_Only, sync_NoMore, state_same}
 use Rattle.gno_disk.proofs.StepLemmas.{Elapses-made}
@@ -38,7 +38,7 @@ returns-clause-durable c =
     let tracked = subst (λ (v : ContentView). after_all (fresh v.first) v.steps ≡ s) c.self.view_is c.self.invariant.tracked in
     let first = ap (λ (v : ContentView). v.first) c.self.view_is in
     let made = c.in_ok-remember.ensures.ok ∙ ap (λ (steps : List Step). steps ++ (synced false) ∷ []) (ap (λ (v : ContentView). v.steps) c.self.view_is) in
-    let bytes = ap (λ (v : ContentView). v.bytes) c.self.view_is in
+    let bytes = sym (ap (λ (t : State). t.bytes) tracked) in
     rw (← bytes) (sync_Only _ _ _ _ s first tracked c.self.invariant.least c.self.invariant.greatest made)
 
 pub returns-clause-time : goal.returns-clause-time

@@ -5,4 +5,4 @@ use Rattle.plain_store.proofs.engine.Engine.create.Goals as goal
 pub returns-in_err-log-clause-images : goal.returns-in_err-log-clause-images
 returns-in_err-log-clause-images g c =
     let p = err_from_is_err_and c.from_residual.result c.from_residual.ensures.1 in
-    rw (p.1, p.2) (unmade g.D.Disk.told g.D.Disk.may_leave g.D.Disk.moment g.D.Disk.left_since g.met.D.Disk.counts_now c.args.disk c.in_err-log.field-0.0.0 _ c.header.ensures c.in_err-log.ensures.any_moment_err)
+    rw (p.1, p.2) (unmade g.D.Disk g.met.D.Disk.counts_now c.args.disk c.in_err-log.field-0.0.0 _ c.header.ensures c.in_err-log.ensures.any_moment_err)
