@@ -1,12 +1,13 @@
 -- A disk over a file, which tells nothing.
-use Rattle.std.specs.Prelude.{◌≡◌, ℕ, ◌+◌, ◌≤◌, List, length, Option, None, IfSome, is_some}
+use Rattle.std.specs.Prelude.{◌≡◌, ℕ, Bool, ◌+◌, ◌≤◌, List, length, Option, None, IfSome, is_some}
 use Rattle.std.proofs.Common.{inl, refl, arith}
 use Rattle.gno_disk.specs.Disk.{TimeGoesOn}
 
--- its length, and how often it has failed
+-- its length, how often it has failed, and whether each call fails from now on
 pub record FileView : Type 0 where
   pub len : ℕ
   pub faults : ℕ
+  pub failed : Bool
 
 -- the bytes aren't told
 abbrev pub no_bytes : FileView → Option (List ℕ)

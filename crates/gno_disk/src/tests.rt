@@ -4,8 +4,7 @@ ghost use Rattle.gno_disk.specs.Images.{bytes_of};
 use crate::{Disk, FileDisk, Fusible, MemDisk};
 use gno_num::Failed;
 use std::alloc::Global;
-use std::fs;
-use std::fs::OpenOptions;
+use std::fs::{self, File, OpenOptions};
 use std::test::Fail;
 
 // Writes twice, syncs, cuts and reads.
@@ -125,6 +124,30 @@ fn a_file_is_a_disk(rt: HostRuntime) -> Result<(), Fail> {
         assert_eq!(rt; use_disk(&mut disk), Ok([5, 6]));
     }
     assert_eq!(rt; disk.len(), 3);
+    // A file that is open to be read alone: a write fails, and the disk goes on.
+    let mut disk = FileDisk::new(File::open(&rt, path)?)?;
+    if disk.len() == 3 {
+        assert_eq!(rt; disk.write_at(3, &[1, 2]), Err(Failed));
+        assert_eq!(rt; (disk.len(), disk.faults()), (3, 1));
+        assert_eq!(rt; disk.sync(), Ok(()));
+    }
     fs::remove_file(&rt, path)?;
+    Ok(())
+}
+
+// The device takes what is written and has nothing to sync: Linux refuses its sync.
+#[test]
+fn a_file_fails_from_a_failed_sync_on(rt: HostRuntime) -> Result<(), Fail> {
+    let file = OpenOptions::new()
+        .read(true)
+        .write(true)
+        .open(&rt, "/dev/null")?;
+    let mut disk = FileDisk::new(file)?;
+    assert_eq!(rt; disk.write_at(0, &[]), Ok(()));
+    assert_eq!(rt; disk.sync(), Err(Failed));
+    assert_eq!(rt; disk.write_at(0, &[]), Err(Failed));
+    assert_eq!(rt; disk.read(0, &mut []), Err(Failed));
+    assert_eq!(rt; disk.cut(0), Err(Failed));
+    assert_eq!(rt; disk.faults(), 4);
     Ok(())
 }

@@ -20,7 +20,7 @@ use gate_log::{Log, LogFault, MountFault};
 use gno_codec::write_post;
 use gno_disk::Disk;
 use gno_num::{Damaged, Memory};
-use series_model::{Answer, Batch, accepted, answer_from};
+use series_model::{Answer, Batch, accepted_within, answer_from};
 use std::alloc::Global;
 use std::marker::Model;
 
@@ -253,7 +253,7 @@ impl<D: Disk> Engine<D> {
             → answer ≡ answer_of kind definition (accepted_by history)) }
     {
         let batches = &self.posts[..self.done as usize];
-        let measures = accepted(self.alloc, largest_granularity(), 0, batches)?;
+        let measures = accepted_within(self.alloc, largest_granularity(), 0, batches)?;
         answer_from(self.alloc, kind, definition, &measures)
     }
 
