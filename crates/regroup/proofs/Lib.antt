@@ -1,0 +1,4 @@
+pub mod Later
+pub mod RunLaws
+pub mod RunSteps
+pub mod Steps
