@@ -1,4 +1,5 @@
 pub mod Earliest
 pub mod Merging
 pub mod Places
+pub mod Preparing
 pub mod Scratch

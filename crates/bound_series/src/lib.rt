@@ -2,12 +2,14 @@
 //! a cut leave is what grouping from scratch all accepted measures gives.
 #![tactic(auto)]
 
+mod job;
 mod laws;
 mod merge;
 mod raw;
 mod settle;
 
-pub use laws::earliest_is_least;
+pub use job::{Job, Prepared};
+pub use laws::{earliest_is_least, empty_job, one_preparation, points_are_in_order};
 pub use raw::{Raw, Touched};
 
 #[cfg(test)]

@@ -1,8 +1,10 @@
 // Worked examples of turns and cuts. Times are in seconds, and values are whole.
-use crate::Raw;
+ghost use Rattle.std.specs.Prelude.{◌≡◌, IfOk, length};
+
+use crate::{Job, Prepared, Raw};
 use archive_policy::{Kind, Name, Policy, Wanted};
 use gno_num::{Span, Stamp, Value};
-use series_model::{Batch, Measure};
+use series_model::{Batch, Measure, MetricId, Ticket};
 use std::alloc::Global;
 use std::test::Fail;
 
@@ -24,7 +26,9 @@ fn measures(alloc: Global, given: &[(u32, i32)]) -> Result<Vec<Measure>, Fail> {
 }
 
 // 12 points of five minutes, with this back window.
-fn policy(alloc: Global, back_window: u64) -> Result<Policy, Fail> {
+fn policy(alloc: Global, back_window: u64) -> Result<Policy, Fail>
+    ensures { IfOk result (λ policy. (length policy.definitions ≡ 1) × (length policy.kinds ≡ 1)) }
+{
     let wanted = [Wanted {
         granularity: Some(Span::of_nanos(300 * NANOS).ok_or("span")?),
         points: Some(12),
@@ -133,5 +137,42 @@ fn kept_values_in_order(rt: HostRuntime) -> Result<(), Fail> {
     let points = measures(alloc, &[(50, 4), (100, 1), (110, 2), (120, 3)])?;
     assert_eq!(rt; raw.points(), points.as_slice());
     assert!(rt; raw.anchor().is_none());
+    Ok(())
+}
+
+const TICKET: Ticket = Ticket { sack: 3, number: 5 };
+
+// A job without batches, with nothing new.
+fn prepared_for_none(alloc: Global) -> Result<Prepared, Fail> {
+    let job = Job::make(
+        TICKET,
+        MetricId(7),
+        policy(alloc, 2)?,
+        Raw::empty(alloc),
+        Vec::new(alloc),
+        9,
+    );
+    let mut points = Vec::new(alloc);
+    points.push(Vec::new(alloc))?;
+    Ok(Prepared::make(job, Raw::empty(alloc), points, None))
+}
+
+#[test]
+fn job_without_batches(rt: HostRuntime) -> Result<(), Fail> {
+    let prepared = prepared_for_none(rt.alloc())?;
+    assert!(rt; prepared.raw().points().is_empty());
+    assert_eq!(rt; prepared.from(), None);
+    for (definition, kind) in [(0, Kind::Mean), (0, Kind::Min), (1, Kind::Mean)] {
+        assert!(rt; prepared.points(definition, kind).is_empty());
+    }
+    assert_eq!(rt; prepared.job().base().last(), None);
+
+    let job = prepared.into_job();
+    assert_eq!(rt;
+        (job.ticket(), job.metric(), job.upto()),
+        (TICKET, MetricId(7), 9)
+    );
+    assert_eq!(rt; job.policy().back_window(), 2);
+    assert!(rt; job.batches().is_empty());
     Ok(())
 }
