@@ -7,6 +7,10 @@ trap 'rm -rf "$folder"' EXIT
 out="$folder/out"
 "$top/gnocchi" replay --memory <"$top/examples/first.script" >"$out"
 cmp "$out" "$top/examples/first.expected"
+for script in "$top"/examples/rows/*.script; do
+    "$top/gnocchi" replay --memory <"$script" >"$out"
+    cmp "$out" "${script%.script}.expected"
+done
 "$top/examples/survive.sh" >"$out"
 cmp "$out" "$top/examples/survive.expected"
 

@@ -1,9 +1,12 @@
 -- What a line asks for.
-use Rattle.std.specs.Prelude.{ℕ, ◌==◌, if◌then◌else◌, Bool, true, List, [], ◌∷◌, ◌++◌, Option, Some, None, codes}
+use Rattle.std.specs.Prelude.{ℕ, ◌==◌, if◌then◌else◌, Bool, true, List, [], ◌∷◌, Option, Some, None, codes}
+use Rattle.std.specs.List.{find}
+use Rattle.std.specs.Option.{option_map}
 use Rattle.std.specs.Str.{bytes_eq}
 use Rattle.archive_policy.specs.declared.definition.Definition.{Definition}
 use Rattle.archive_policy.specs.declared.kind.Kind.{Kind}
-use Rattle.archive_policy.specs.declared.kind.Kind.TheVariants.{Mean, Count}
+use Rattle.archive_policy.specs.declared.kind.Kind.TheVariants.{Mean, Count, Last, RateSum, RateLast}
+use Rattle.archive_policy.specs.Kinds.{kind_name}
 use Rattle.series_model.specs.declared.measure.Measure.{Measure}
 use Rattle.plain_store.specs.declared.request.Request.{Request}
 use Rattle.plain_store.specs.declared.request.Request.TheVariants.{Nothing, Work, Post, Get, Other}
@@ -26,20 +29,31 @@ abbrev pub post_of : List ℕ → Request
 post_of line =
     post_or_other (behind_text (codes "POST /v1/metric/00000001-0000-8000-8000-000000000001/measures ") line >>= measures_in)
 
--- the line of a query
-abbrev pub query_text : List ℕ → List ℕ → List ℕ
-query_text granularity kind =
-    codes "GET /v1/metric/00000001-0000-8000-8000-000000000001/measures?granularity="
-    ++ granularity ++ codes "&aggregation=" ++ kind
+-- a minute and what follows its `60`, else five minutes and what follows their `300`
+abbrev pub minute_or_five : Option (List ℕ) → List ℕ → Option (Definition × List ℕ)
+minute_or_five None bytes = option_map (λ rest. (five_minutes, rest)) (behind_text (codes "300") bytes)
+minute_or_five (Some rest) bytes = Some (minute, rest)
+
+-- the definition whose granularity in seconds stands at the front, and what follows it
+unfoldable pub definition_at : List ℕ → Option (Definition × List ℕ)
+definition_at bytes = minute_or_five (behind_text (codes "60") bytes) bytes
+
+-- the kinds that a query may ask
+abbrev pub asked_kinds : List Kind
+asked_kinds = Mean ∷ Count ∷ Last ∷ RateSum ∷ RateLast ∷ []
+
+-- the kind of this name, where a query may ask it
+unfoldable pub asked_kind : List ℕ → Option Kind
+asked_kind name = find (λ kind. bytes_eq name (kind_name kind)) asked_kinds
 
 -- the definition and kind that a line asks the rows of, if it does
 unfoldable pub query_of : List ℕ → Option (Definition × Kind)
-query_of line =
-    if bytes_eq line (query_text (codes "60") (codes "mean")) then Some (minute, Mean)
-    else if bytes_eq line (query_text (codes "60") (codes "count")) then Some (minute, Count)
-    else if bytes_eq line (query_text (codes "300") (codes "mean")) then Some (five_minutes, Mean)
-    else if bytes_eq line (query_text (codes "300") (codes "count")) then Some (five_minutes, Count)
-    else None
+query_of line = do
+  rest ← behind_text (codes "GET /v1/metric/00000001-0000-8000-8000-000000000001/measures?granularity=") line
+  d ← definition_at rest
+  name ← behind_text (codes "&aggregation=") d.1
+  kind ← asked_kind name
+  Some (d.0, kind)
 
 -- what a line asks for that is a query, or may post measures
 abbrev pub get_or_post : List ℕ → Option (Definition × Kind) → Request

@@ -3,7 +3,7 @@ ghost use Rattle.std.specs.Prelude.{◌≡◌, ◌≤◌, [], length, IfOk, IfSo
 ghost use Rattle.std.specs.Option.{option_map};
 ghost use Rattle.std.specs.Str.{bytes_eq};
 ghost use Rattle.gnocchi_cmd.specs.Measures.{object_at, objects_onto, measures_in};
-ghost use Rattle.gnocchi_cmd.specs.Line.{request_of, query_of, post_of};
+ghost use Rattle.gnocchi_cmd.specs.Line.{request_of, query_of, definition_at, asked_kind, post_of};
 
 use crate::number::{after, nanos, units};
 use archive_policy::{Definition, Kind};
@@ -94,22 +94,36 @@ fn post(alloc: Global, line: &[u8]) -> Result<Request, Memory>
     }
 }
 
+/// The definition whose granularity in seconds stands at the front, and what follows it.
+#[tactic(auto, unfolding(crate::specs::Line::definition_at))]
+fn definition(bytes: &[u8]) -> Option<(Definition, &[u8])>
+    ensures { option_map (λ x. (x.0, x.1.now)) result ≡ definition_at bytes.now }
+{
+    match after("60", bytes) {
+        Some(rest) => Some((by_minute(), rest)),
+        None => Some((by_five_minutes(), after("300", bytes)?)),
+    }
+}
+
+/// The kind of this name, where a query may ask it.
+fn kind(name: &[u8]) -> Option<Kind>
+    ensures { result ≡ asked_kind name.now }
+{
+    KINDS.iter().find(|kind| is(name, kind.name())).copied()
+}
+
 /// The definition and kind that a line asks the rows of, if it does.
 #[tactic(auto, unfolding(crate::specs::Line::query_of))]
 fn query(line: &[u8]) -> Option<(Definition, Kind)>
     ensures { result ≡ query_of line.now }
 {
-    if is(line, MINUTE_MEAN) {
-        Some((by_minute(), Kind::Mean))
-    } else if is(line, MINUTE_COUNT) {
-        Some((by_minute(), Kind::Count))
-    } else if is(line, FIVE_MINUTES_MEAN) {
-        Some((by_five_minutes(), Kind::Mean))
-    } else if is(line, FIVE_MINUTES_COUNT) {
-        Some((by_five_minutes(), Kind::Count))
-    } else {
-        None
-    }
+    let rest = after(GET, line)?;
+    let Some((definition, rest)) = definition(rest) else {
+        return None;
+    };
+    let name = after("&aggregation=", rest)?;
+    let kind = kind(name)?;
+    Some((definition, kind))
 }
 
 /// What a line asks for.
@@ -131,14 +145,12 @@ pub fn read_request(alloc: Global, line: &[u8]) -> Result<Request, Memory>
 
 const POST: &str = "POST /v1/metric/00000001-0000-8000-8000-000000000001/measures ";
 
-const MINUTE_MEAN: &str =
-    "GET /v1/metric/00000001-0000-8000-8000-000000000001/measures?granularity=60&aggregation=mean";
+const GET: &str = "GET /v1/metric/00000001-0000-8000-8000-000000000001/measures?granularity=";
 
-const MINUTE_COUNT: &str =
-    "GET /v1/metric/00000001-0000-8000-8000-000000000001/measures?granularity=60&aggregation=count";
-
-const FIVE_MINUTES_MEAN: &str =
-    "GET /v1/metric/00000001-0000-8000-8000-000000000001/measures?granularity=300&aggregation=mean";
-
-const FIVE_MINUTES_COUNT: &str =
-    "GET /v1/metric/00000001-0000-8000-8000-000000000001/measures?granularity=300&aggregation=count";
+const KINDS: [Kind; 5] = [
+    Kind::Mean,
+    Kind::Count,
+    Kind::Last,
+    Kind::RateSum,
+    Kind::RateLast,
+];

@@ -93,8 +93,13 @@ fn scripts_are_answered(rt: HostRuntime) -> Result<(), Fail> {
         (&[], ""),
         (&["", "# a comment"], ""),
         (
-            &[ONE, "WORK", "read 60&aggregation=mean"],
-            "202\n200 {\"jobs\":1}\n200 [[\"1970-01-01T00:01:00+00:00\",60.0,15.0]]\n",
+            &[
+                ONE,
+                "WORK",
+                "read 60&aggregation=mean",
+                "read 60&aggregation=rate:sum",
+            ],
+            "202\n200 {\"jobs\":1}\n200 [[\"1970-01-01T00:01:00+00:00\",60.0,15.0]]\n200 [[\"1970-01-01T00:01:00+00:00\",60.0,10.0]]\n",
         ),
         (
             &[
