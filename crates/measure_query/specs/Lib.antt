@@ -1,0 +1,5 @@
+pub mod Form
+pub mod Key
+pub mod Query
+pub mod Seen
+pub mod Wanted
