@@ -142,7 +142,7 @@ none_at points kinds i (Some place) all = by (cases_lt (i * kinds + place) (leng
     by (inl inside) = all (i * kinds + place) [] inside
     by (inr past) = get_or-eq_default points [] past
 
-none_new : (granularity : ℕ) (points : List Point) → points ≡ [] → AreNew granularity None points
+pub none_new : (granularity : ℕ) (points : List Point) → points ≡ [] → AreNew granularity None points
 none_new granularity points is = subst (λ l. AreNew granularity None l) (sym is) (record {
   rising = λ k below. absurd (omega arith);
   multiples = All-nil (λ (p : Point). p.at % granularity ≡ 0);

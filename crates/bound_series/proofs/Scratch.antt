@@ -36,7 +36,7 @@ accepted_late : (p : ArchivePolicy) (o : Option ℕ) (m : Measure) → is_within
 accepted_late p None m is = omega arith
 accepted_late p (Some last) m is = leb-true (accepts_from p (Some last)) m.at is
 
-all_late : (c : ℕ) (p : ArchivePolicy) (o : Option ℕ) (batch : List Measure) → c ≤ accepts_from p o → All (λ m. c ≤ m.at) (filter (is_within (window_by p o)) batch)
+pub all_late : (c : ℕ) (p : ArchivePolicy) (o : Option ℕ) (batch : List Measure) → c ≤ accepts_from p o → All (λ m. c ≤ m.at) (filter (is_within (window_by p o)) batch)
 all_late c p o [] le = All-nil (λ (m : Measure). c ≤ m.at)
 all_late c p o (m ∷ batch) le = by (is_within (window_by p o) m) refl (all_late c p o batch le)
   where

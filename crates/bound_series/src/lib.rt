@@ -11,6 +11,7 @@ mod settle;
 pub use job::{Job, Prepared};
 pub use laws::{earliest_is_least, empty_job, one_preparation, points_are_in_order};
 pub use raw::{Raw, Touched};
+pub use settle::earlier_of;
 
 #[cfg(test)]
 mod tests;

@@ -4,8 +4,11 @@
 mod runs;
 mod tallies;
 mod touched;
+mod turns;
+mod work;
 
 pub use touched::changed;
+pub use work::prepare;
 
 #[cfg(test)]
 mod tests;

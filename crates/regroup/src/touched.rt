@@ -40,7 +40,7 @@ pub fn changed(
 }
 
 /// The tallies of all buckets from a start on, by the kept values.
-fn tallies_from(
+pub fn tallies_from(
     alloc: Global,
     raw: &Raw,
     first: Stamp,
