@@ -16,6 +16,8 @@ for round in 1 2 3 4 5; do
         for (second = first; second < 3600; second++)
             printf "POST %s [{\"timestamp\":%d,\"value\":1}]\n", path, second
     }' >"$folder/lines"
+    # Emptied here, since the program may start after the first look at it.
+    : >"$folder/replies"
     "$top/gnocchi" replay --store "$folder/store" <"$folder/lines" >"$folder/replies" 2>/dev/null &
     program=$!
     tries=0
