@@ -1,4 +1,11 @@
+pub mod BlockRecords
 pub mod Fields
+pub mod IndexRecords
+pub mod KindBits
+pub mod Lists
 pub mod Loop
+pub mod Policies
 pub mod Records
+pub mod ShelfRecords
+pub mod Steps
 pub mod Writes

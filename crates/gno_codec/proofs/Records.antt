@@ -1,220 +1,152 @@
--- The two laws of the incoming log's records: what is read is spelled so, and what is spelled so is read.
-use Rattle.std.proofs.Common.{◌≡◌, ℕ, zero, suc, ◌-◌, ◌*◌, ◌^◌, ◌<◌, Bool, true, false, cond, eqb, leb, ltb, ◌&&◌, ◌⊎◌, inl, inr, List, [], ◌∷◌, ◌++◌, length, Result, Ok, Err, refl, sym, ap, subst, ◌∙◌, append_assoc, arith, lit<}
-use Rattle.std.specs.Prelude.{IfOk, unsigned_abs, FitsSigned}
+-- Records of the incoming log: what is read is spelled so, and what is spelled so is read.
+use Rattle.std.proofs.Common.{◌≡◌, ℕ, ◌-◌, ◌*◌, ◌^◌, ◌<◌, ◌≤◌, Bool, true, false, cond, eqb, leb, ltb, ◌&&◌, ◌⊎◌, inl, inr, List, [], ◌∷◌, ◌++◌, length, Option, Some, None, refl, sym, ap, subst, append_assoc, arith, lit<}
+use Rattle.std.specs.Prelude.{unsigned_abs, All}
 use Rattle.std.specs.List.{flat_map, AllByRecursion}
 use Rattle.std.specs.Int.{w64, cast_unsigned}
 use Rattle.std.specs.Cmp.Derive.{both_true}
 use Rattle.std.proofs.lemmas.Bool.{eqb-true, leb-true, ltb-true, le-leb, lt-ltb}
 use Rattle.std.proofs.lemmas.Int.{fits_signed_from_abs}
-use Rattle.std.proofs.lemmas.List.{append-nil, nil_from_length}
-use Rattle.std.proofs.lemmas.List.Concat.{flat_map-cons}
+use Rattle.std.proofs.lemmas.List.{append-nil}
 use Rattle.std.proofs.lemmas.List.Elements.{All-from_recursion, recursion_from_All}
 use Rattle.byteorder.specs.Endian.{big_bytes}
-use Rattle.series_model.specs.declared.measure.Measure.{Measure}
-use Rattle.gno_codec.specs.declared.fault.ReadFault.{ReadFault}
-use Rattle.gno_codec.specs.declared.fault.ReadFault.TheVariants as faults
 use Rattle.gno_codec.specs.declared.item.IncomingItem.{IncomingItem}
 use Rattle.gno_codec.specs.declared.item.IncomingItem.TheVariants.{Post, Next}
-use Rattle.gno_codec.specs.Incoming.{measure_bytes, incoming_bytes, IsMeasure, IsPost, IsNext, IsIncoming}
-use Rattle.gno_codec.specs.Reading.{Unread, ◌>>=◌, Answers, number_at, signed_at, tested}
-use Rattle.gno_codec.specs.IncomingReading.{measure_at, measures_at, post_at, next_at, item_at, incoming_of}
-use Rattle.gno_codec.proofs.Fields.{IsBytes, Takes, Takes-then, IsField, bind_ok, passed, ok_is, number_field, signed_field, tested_field}
+use Rattle.gno_codec.specs.Incoming.{measure_bytes, post_bytes, next_bytes, incoming_bytes, IsMeasure, IsIncoming}
+use Rattle.gno_codec.specs.Reading.{Unread, Reading, or_fault, then_at, number_at, tested, standing_for, items_at, by_kind}
+use Rattle.gno_codec.specs.IncomingReading.{stamp_at, value_at, measure_at, post_at, next_at, incoming_kinds}
+use Rattle.gno_codec.proofs.Steps.{IsField, Takes, Takes-then, read_ok, there_is, Goes, Again, IsChain, as_well, goes_then, goes_done, again_then, again_done, again_text, made_of, tested_field, items_field}
+use Rattle.gno_codec.proofs.Fields.{number_field, signed_field, whole_64}
 
 -- both tests passed
-both_passed : (a b : Bool) → (a && b) ≡ true → (a ≡ true) × (b ≡ true)
+pub both_passed : (a b : Bool) → (a && b) ≡ true → (a ≡ true) × (b ≡ true)
 both_passed true b e = (refl, e)
 both_passed false b e = absurd cc
 
+-- a number of n bytes from one to another
+pub numbered : (n least most : ℕ) → most < 256 ^ n → IsField (tested (λ x. leb least x && leb x most) (number_at n)) (big_bytes n) (λ x. (least ≤ x) × (x ≤ most))
+numbered n least most fits =
+    tested_field (λ x. leb least x && leb x most) (number_field n) (λ x. (least ≤ x) × (x ≤ most))
+    (λ x has e. let b = both_passed (leb least x) (leb x most) e in (leb-true _ _ b.0, leb-true _ _ b.1))
+    (λ x is. (omega (arith, is.1, fits), both_true (le-leb _ _ is.0) (le-leb _ _ is.1)))
+
+-- a number of n bytes up to another
+pub limited : (n most : ℕ) → most < 256 ^ n → IsField (tested (λ x. leb x most) (number_at n)) (big_bytes n) (λ x. x ≤ most)
+limited n most fits =
+    tested_field (λ x. leb x most) (number_field n) (λ x. x ≤ most) (λ x has e. leb-true _ _ e) (λ x is. (omega (arith, is, fits), le-leb _ _ is))
+
+-- a number of n bytes from another on
+pub at_least : (n least : ℕ) → IsField (tested (λ x. leb least x) (number_at n)) (big_bytes n) (λ x. (least ≤ x) × (x < 256 ^ n))
+at_least n least =
+    tested_field (λ x. leb least x) (number_field n) (λ x. (least ≤ x) × (x < 256 ^ n)) (λ x has e. (leb-true _ _ e, has)) (λ x is. (is.1, le-leb _ _ is.0))
+
 -- ---- measures
 
-stamp_field : IsField (tested (λ nanos. ltb nanos (9 * 10 ^ 18)) (number_at 8)) (big_bytes 8) (λ nanos. (nanos < 256 ^ 8) × (ltb nanos (9 * 10 ^ 18) ≡ true))
-stamp_field = tested_field (number_at 8) (big_bytes 8) (λ nanos. nanos < 256 ^ 8) (λ nanos. ltb nanos (9 * 10 ^ 18)) (number_field 8)
+pub stamp_field : IsField stamp_at (big_bytes 8) (λ nanos. nanos < 9 * 10 ^ 18)
+unfolding stamp_at
+stamp_field =
+    tested_field (λ nanos. ltb nanos (9 * 10 ^ 18)) (number_field 8) (λ nanos. nanos < 9 * 10 ^ 18) (λ x has e. ltb-true _ _ e) (λ x is. (omega (arith, is), lt-ltb _ _ is))
 
-value_field : IsField (tested (λ units. leb (unsigned_abs units) (10 ^ 18)) signed_at) (λ units. big_bytes 8 (cast_unsigned w64 units)) (λ units. FitsSigned w64 units × (leb (unsigned_abs units) (10 ^ 18) ≡ true))
-value_field = tested_field signed_at (λ units. big_bytes 8 (cast_unsigned w64 units)) (FitsSigned w64) (λ units. leb (unsigned_abs units) (10 ^ 18)) signed_field
+pub value_field : IsField value_at (λ units. big_bytes 8 (cast_unsigned w64 units)) (λ units. unsigned_abs units ≤ 10 ^ 18)
+unfolding value_at
+value_field =
+    tested_field (λ units. leb (unsigned_abs units) (10 ^ 18)) (signed_field w64 whole_64) (λ units. unsigned_abs units ≤ 10 ^ 18)
+    (λ x has e. leb-true _ _ e)
+    (λ x is. (fits_signed_from_abs w64 x (omega (arith, is)), le-leb _ _ is))
 
-measure_takes : (from : Unread) (m : Measure) (to : Unread) → IsBytes from.rest → measure_at from ≡ Ok (m, to) → Takes from (measure_bytes m) to × IsMeasure m
+pub measure_field : IsField measure_at measure_bytes IsMeasure
 unfolding measure_at
-measure_takes from m to fits e =
-    let a = bind_ok (tested (λ nanos. ltb nanos (9 * 10 ^ 18)) (number_at 8) from) (λ stamp. tested (λ units. leb (unsigned_abs units) (10 ^ 18)) signed_at stamp.1 >>= λ value. Ok (record { at = stamp.0; value = value.0 }, value.1)) (m, to) e in
-    let b = bind_ok (tested (λ units. leb (unsigned_abs units) (10 ^ 18)) signed_at a.0.1) (λ value. Ok (record { at = a.0.0; value = value.0 }, value.1)) (m, to) a.2 in
-    let t0 = stamp_field.takes from a.0.0 a.0.1 fits a.1 in
-    let t1 = value_field.takes a.0.1 b.0.0 b.0.1 t0.0.rest_fits b.1 in
-    let made : Measure × Unread = (record { at = a.0.0; value = b.0.0 }, b.0.1) in
-    let whole : Takes from (measure_bytes made.0) made.1 = Takes-then from a.0.1 b.0.1 (big_bytes 8 a.0.0) (big_bytes 8 (cast_unsigned w64 b.0.0)) t0.0 t1.0 in
-    let is : IsMeasure made.0 = record { time = ltb-true _ _ t0.1.1; magnitude = leb-true _ _ t1.1.1 } in
-    subst (λ (y : Measure × Unread). Takes from (measure_bytes y.0) y.1 × IsMeasure y.0) (ok_is made (m, to) b.2) (whole, is)
+measure_field = made_of measure_bytes IsMeasure
+    (goes_then stamp_field (λ at time. goes_then value_field (λ value magnitude. goes_done (record { at = at; value = value }) refl (record { time = time; magnitude = magnitude }))))
+    (λ m is. again_text (measure_bytes m) (simp append-nil) (again_then _ stamp_field m.at is.time (again_then _ value_field m.value is.magnitude (again_done m))))
 
-measure_again : (at : ℕ) (rest : List ℕ) (m : Measure) → IsMeasure m → (next : ℕ) × (measure_at (record { at = at; rest = measure_bytes m ++ rest }) ≡ Ok (m, record { at = next; rest = rest }))
-unfolding measure_at
-measure_again at rest m is =
-    let signed = fits_signed_from_abs w64 m.value (omega (arith, is.magnitude)) in
-    let r0 = stamp_field.again at (big_bytes 8 (cast_unsigned w64 m.value) ++ rest) m.at (omega (arith, is.time), lt-ltb _ _ is.time) in
-    let r1 = value_field.again r0.0 rest m.value (signed, le-leb _ _ is.magnitude) in
-    (r1.0, rw (r0.1, r1.1) refl)
+-- ---- several of one kind, where none depends on the one before it
 
-measure_field : IsField measure_at measure_bytes IsMeasure
-measure_field = record { takes = measure_takes; again = measure_again }
+pub chain_is : {A : Type 0} (Is : A → Type 0) (before : Option A) (xs : List A) → IsChain (λ _ x. Is x) before xs → AllByRecursion Is xs
+chain_is Is before [] h = tt
+chain_is Is before (x ∷ xs) h = (h.0, chain_is Is (Some x) xs h.1)
 
-measures_take : (n : ℕ) (from : Unread) (x : List Measure × Unread) → IsBytes from.rest → measures_at n from ≡ Ok x → Takes from (flat_map measure_bytes x.0) x.1 × (length x.0 ≡ n) × AllByRecursion IsMeasure x.0
-unfolding measures_at
-measures_take zero from x fits e =
-    subst (λ (y : List Measure × Unread). Takes from (flat_map measure_bytes y.0) y.1 × (length y.0 ≡ 0) × AllByRecursion IsMeasure y.0) (ok_is ([], from) x e) (record { parts = refl; rest_fits = fits }, refl, tt)
-measures_take (suc n) from x fits e =
-    let a = bind_ok (measure_at from) (λ first. measures_at n first.1 >>= λ others. Ok (first.0 ∷ others.0, others.1)) x e in
-    let b = bind_ok (measures_at n a.0.1) (λ others. Ok (a.0.0 ∷ others.0, others.1)) x a.2 in
-    let first = measure_field.takes from a.0.0 a.0.1 fits a.1 in
-    let others = measures_take n a.0.1 b.0 first.0.rest_fits b.1 in
-    let both = Takes-then from a.0.1 b.0.1 (measure_bytes a.0.0) (flat_map measure_bytes b.0.0) first.0 others.0 in
-    let made : List Measure × Unread = (a.0.0 ∷ b.0.0, b.0.1) in
-    subst (λ (y : List Measure × Unread). Takes from (flat_map measure_bytes y.0) y.1 × (length y.0 ≡ suc n) × AllByRecursion IsMeasure y.0) (ok_is made x b.2) (rw flat_map-cons both, ap suc others.1, (first.1, others.2))
+pub is_chain : {A : Type 0} (Is : A → Type 0) (before : Option A) (xs : List A) → AllByRecursion Is xs → IsChain (λ _ x. Is x) before xs
+is_chain Is before [] h = tt
+is_chain Is before (x ∷ xs) h = (h.0, is_chain Is (Some x) xs h.1)
 
-measures_again : (at : ℕ) (rest : List ℕ) (ms : List Measure) → AllByRecursion IsMeasure ms → (next : ℕ) × (measures_at (length ms) (record { at = at; rest = flat_map measure_bytes ms ++ rest }) ≡ Ok (ms, record { at = next; rest = rest }))
-unfolding measures_at
-measures_again at rest [] is = (at, refl)
-measures_again at rest (m ∷ ms) is =
-    let r0 = measure_field.again at (flat_map measure_bytes ms ++ rest) m is.0 in
-    let r1 = measures_again r0.0 rest ms is.1 in
-    let regrouped : flat_map measure_bytes (m ∷ ms) ++ rest ≡ measure_bytes m ++ (flat_map measure_bytes ms ++ rest) = ap (λ (xs : List ℕ). xs ++ rest) (flat_map-cons measure_bytes m ms) ∙ append_assoc (measure_bytes m) (flat_map measure_bytes ms) rest in
-    (r1.0, ap (λ (xs : List ℕ). measures_at (suc (length ms)) (record { at = at; rest = xs })) regrouped ∙ rw (r0.1, r1.1) refl)
+pub each_field : {A : Type 0} {item : Reading A} {spelled : A → List ℕ} {Is : A → Type 0} → IsField item spelled Is → (n : ℕ) → IsField (items_at (λ _. item) None n) (flat_map spelled) (λ xs. (length xs ≡ n) × All Is xs)
+each_field {A} {item} {spelled} {Is} is n =
+    as_well (λ xs. (length xs ≡ n) × All Is xs) (items_field (λ _. item) spelled (λ _ x. Is x) (λ _. is) None n)
+    (λ xs h. (h.0, All-from_recursion Is xs (chain_is Is None xs h.1)))
+    (λ xs h. (h.0, is_chain Is None xs (recursion_from_All Is xs h.1)))
+
+-- ---- by the first byte
+
+-- Reading a record takes what the first byte asks for.
+pub kind_goes : {A : Type 0} {all : A → List ℕ} {Is : A → Type 0} (kinds : ℕ → Option (Reading A)) → ((kind : ℕ) (r : Reading A) → kinds kind ≡ Some r → Goes r (big_bytes 1 kind) all Is) → Goes (by_kind kinds) [] all Is
+unfolding by_kind then_at standing_for
+kind_goes {A} {all} {Is} kinds each = record {
+  on = λ from y to fits e.
+      let a = read_ok (standing_for kinds (number_at 1) from) (λ r. r) (y, to) e in
+      let b = read_ok (number_at 1 from) (λ x. or_fault from.at (kinds x)) a.0 a.1 in
+      let t = (number_field 1).takes from b.0.0 b.0.1 fits b.1 in
+      let o = there_is (kinds b.0.0) from.at b.0.1 a.0 b.2 in
+      let taken : Takes from (big_bytes 1 b.0.0) a.0.1 = subst (λ (u : Unread). Takes from (big_bytes 1 b.0.0) u) o.1 t.0 in
+      let r = (each b.0.0 a.0.0 o.0).on a.0.1 y to taken.rest_fits a.2 in
+      record { tail = big_bytes 1 b.0.0 ++ r.tail; parts = r.parts; taken = Takes-then from a.0.1 to (big_bytes 1 b.0.0) r.tail taken r.taken; is = r.is };
+}
+
+pub kind_again : {A : Type 0} (kinds : ℕ → Option (Reading A)) (kind : ℕ) (r : Reading A) (tail : List ℕ) (y : A) → kind < 256 → kinds kind ≡ Some r → Again r tail y → Again (by_kind kinds) (big_bytes 1 kind ++ tail) y
+unfolding by_kind then_at standing_for
+kind_again kinds kind r tail y fits is again = record {
+  reads = λ at rest.
+      let first = (number_field 1).again at (tail ++ rest) kind fits in
+      let then = again.reads first.0 rest in
+      (then.0, rw (append_assoc, first.1, is) then.1);
+}
+
+-- the choice by a first byte
+pub chosen : {A : Type 0} (b : Bool) (x y : A) (other : Option A) → cond b (Some x) other ≡ Some y → ((b ≡ true) × (x ≡ y)) ⊎ (other ≡ Some y)
+chosen true x y other e = inl (refl, cc)
+chosen false x y other e = inr e
+
+pub chosen_some : {A : Type 0} (b : Bool) (x y : A) (other : Option A) → cond b (Some x) other ≡ Some y → ((b ≡ true) × (x ≡ y)) ⊎ (other ≡ Some y)
+chosen_some b x y other e = chosen b x y other e
+
+-- what reads the record of one first byte
+pub goes_as : {A : Type 0} {all : A → List ℕ} {Is : A → Type 0} (kind own : ℕ) (reading r : Reading A) → eqb kind own ≡ true → reading ≡ r → Goes reading (big_bytes 1 own) all Is → Goes r (big_bytes 1 kind) all Is
+goes_as {A} {all} {Is} kind own reading r e same goes =
+    subst (λ (s : Reading A). Goes s (big_bytes 1 kind) all Is) same (subst (λ (k : ℕ). Goes reading (big_bytes 1 k) all Is) (sym (eqb-true _ _ e)) goes)
 
 -- ---- posts and next numbers
 
--- a number from 1 to `most`
-numbered : (most : ℕ) → IsField (tested (λ n. leb 1 n && leb n most) (number_at 8)) (big_bytes 8) (λ n. (n < 256 ^ 8) × ((leb 1 n && leb n most) ≡ true))
-numbered most = tested_field (number_at 8) (big_bytes 8) (λ n. n < 256 ^ 8) (λ n. leb 1 n && leb n most) (number_field 8)
-
-count_field : IsField (tested (λ n. leb n 50000) (number_at 4)) (big_bytes 4) (λ n. (n < 256 ^ 4) × (leb n 50000 ≡ true))
-count_field = tested_field (number_at 4) (big_bytes 4) (λ n. n < 256 ^ 4) (λ n. leb n 50000) (number_field 4)
-
--- what follows the first byte is taken, and makes a record with that byte
-record TakesItem (kind : ℕ) (from : Unread) (item : IncomingItem) (to : Unread) : Type 0 where
-  pub tail : List ℕ
-  pub spelled : incoming_bytes item ≡ kind ∷ tail
-  pub taken : Takes from tail to
-  pub is : IsIncoming item
-
-post_takes : (from : Unread) (item : IncomingItem) (to : Unread) → IsBytes from.rest → post_at from ≡ Ok (item, to) → TakesItem 1 from item to
+post_goes : Goes post_at (big_bytes 1 1) incoming_bytes IsIncoming
 unfolding post_at
-post_takes from item to fits e =
-    let a = bind_ok (tested (λ n. leb 1 n && leb n (2 ^ 63 - 1)) (number_at 8) from) (λ number. number_at 16 number.1 >>= λ metric. tested (λ n. leb n 50000) (number_at 4) metric.1 >>= λ count. measures_at count.0 count.1 >>= λ measures. Ok (Post number.0 (record { 0 = metric.0 }) measures.0, measures.1)) (item, to) e in
-    let b = bind_ok (number_at 16 a.0.1) (λ metric. tested (λ n. leb n 50000) (number_at 4) metric.1 >>= λ count. measures_at count.0 count.1 >>= λ measures. Ok (Post a.0.0 (record { 0 = metric.0 }) measures.0, measures.1)) (item, to) a.2 in
-    let c = bind_ok (tested (λ n. leb n 50000) (number_at 4) b.0.1) (λ count. measures_at count.0 count.1 >>= λ measures. Ok (Post a.0.0 (record { 0 = b.0.0 }) measures.0, measures.1)) (item, to) b.2 in
-    let d = bind_ok (measures_at c.0.0 c.0.1) (λ measures. Ok (Post a.0.0 (record { 0 = b.0.0 }) measures.0, measures.1)) (item, to) c.2 in
-    let t0 = (numbered (2 ^ 63 - 1)).takes from a.0.0 a.0.1 fits a.1 in
-    let t1 = (number_field 16).takes a.0.1 b.0.0 b.0.1 t0.0.rest_fits b.1 in
-    let t2 = count_field.takes b.0.1 c.0.0 c.0.1 t1.0.rest_fits c.1 in
-    let t3 = measures_take c.0.0 c.0.1 d.0 t2.0.rest_fits d.1 in
-    let made : IncomingItem × Unread = (Post a.0.0 (record { 0 = b.0.0 }) d.0.0, d.0.1) in
-    let range = both_passed (leb 1 a.0.0) (leb a.0.0 (2 ^ 63 - 1)) t0.1.1 in
-    let most = leb-true _ _ t2.1.1 in
-    let two = Takes-then from a.0.1 b.0.1 (big_bytes 8 a.0.0) (big_bytes 16 b.0.0) t0.0 t1.0 in
-    let three = Takes-then from b.0.1 c.0.1 (big_bytes 8 a.0.0 ++ big_bytes 16 b.0.0) (big_bytes 4 c.0.0) two t2.0 in
-    let four = Takes-then from c.0.1 d.0.1 (big_bytes 8 a.0.0 ++ big_bytes 16 b.0.0 ++ big_bytes 4 c.0.0) (flat_map measure_bytes d.0.0) three t3.0 in
-    let counted = subst (λ (k : ℕ). Takes from (big_bytes 8 a.0.0 ++ big_bytes 16 b.0.0 ++ big_bytes 4 k ++ flat_map measure_bytes d.0.0) d.0.1) (sym t3.1) four in
-    let whole : TakesItem 1 from made.0 made.1 = record {
-      tail = big_bytes 8 a.0.0 ++ big_bytes 16 b.0.0 ++ big_bytes 4 (length d.0.0) ++ flat_map measure_bytes d.0.0;
-      spelled = refl;
-      taken = counted;
-      is = record {
-        first = leb-true _ _ range.0;
-        last = leb-true _ _ range.1;
-        id = t1.1;
-        count = omega (arith, t3.1, most);
-        each = All-from_recursion IsMeasure d.0.0 t3.2;
-      };
-    } in
-    subst (λ (y : IncomingItem × Unread). TakesItem 1 from y.0 y.1) (ok_is made (item, to) d.2) whole
+post_goes =
+    goes_then (numbered 8 1 (2 ^ 63 - 1) (lit< tt)) (λ number range. goes_then (number_field 16) (λ metric id. goes_then (limited 4 50000 (lit< tt)) (λ count most. goes_then (each_field measure_field count) (λ measures have.
+    goes_done (Post number (record { 0 = metric }) measures) (ap (λ (k : ℕ). 1 ∷ big_bytes 8 number ++ big_bytes 16 metric ++ big_bytes 4 k ++ flat_map measure_bytes measures) have.0)
+    (record { first = range.0; last = range.1; id = id; count = omega (arith, have.0, most); each = have.1 })))))
 
-next_takes : (from : Unread) (item : IncomingItem) (to : Unread) → IsBytes from.rest → next_at from ≡ Ok (item, to) → TakesItem 2 from item to
+next_goes : Goes next_at (big_bytes 1 2) incoming_bytes IsIncoming
 unfolding next_at
-next_takes from item to fits e =
-    let a = bind_ok (tested (λ n. leb 1 n && leb n (2 ^ 63)) (number_at 8) from) (λ number. Ok (Next number.0, number.1)) (item, to) e in
-    let t = (numbered (2 ^ 63)).takes from a.0.0 a.0.1 fits a.1 in
-    let range = both_passed (leb 1 a.0.0) (leb a.0.0 (2 ^ 63)) t.1.1 in
-    let made : IncomingItem × Unread = (Next a.0.0, a.0.1) in
-    let whole : TakesItem 2 from made.0 made.1 = record {
-      tail = big_bytes 8 a.0.0;
-      spelled = refl;
-      taken = t.0;
-      is = record { first = leb-true _ _ range.0; last = leb-true _ _ range.1 };
-    } in
-    subst (λ (y : IncomingItem × Unread). TakesItem 2 from y.0 y.1) (ok_is made (item, to) a.2) whole
+next_goes = goes_then (numbered 8 1 (2 ^ 63) (lit< tt)) (λ number range. goes_done (Next number) refl (record { first = range.0; last = range.1 }))
 
--- the choice by the first byte that did not fail
-chosen : {A : Type 0} (b c : Bool) (x y : Result A ℕ) (at : ℕ) (z : A) → cond b x (cond c y (Err at)) ≡ Ok z → ((b ≡ true) × (x ≡ Ok z)) ⊎ ((c ≡ true) × (y ≡ Ok z))
-chosen true c x y at z e = inl (refl, e)
-chosen false true x y at z e = inr (refl, e)
-chosen false false x y at z e = absurd cc
-
--- the first byte, and what follows it
-with_kind : (kind : ℕ) (from after : Unread) (item : IncomingItem) (to : Unread) → Takes from (kind ∷ []) after → TakesItem kind after item to → Takes from (incoming_bytes item) to × IsIncoming item
-with_kind kind from after item to first rest =
-    (subst (λ (xs : List ℕ). Takes from xs to) (sym rest.spelled) (Takes-then from after to (kind ∷ []) rest.tail first rest.taken), rest.is)
-
-item_takes : (from : Unread) (item : IncomingItem) (to : Unread) → IsBytes from.rest → item_at from ≡ Ok (item, to) → Takes from (incoming_bytes item) to × IsIncoming item
-unfolding item_at
-item_takes from item to fits e =
-    let k = bind_ok (number_at 1 from) (λ kind. cond (eqb kind.0 1) (post_at kind.1) (cond (eqb kind.0 2) (next_at kind.1) (Err from.at))) (item, to) e in
-    let t = (number_field 1).takes from k.0.0 k.0.1 fits k.1 in
-    elim (chosen (eqb k.0.0 1) (eqb k.0.0 2) (post_at k.0.1) (next_at k.0.1) from.at (item, to) k.2) [
-      | inl post ↦
-          let first = subst (λ (n : ℕ). Takes from (big_bytes 1 n) k.0.1) (eqb-true _ _ post.0) t.0 in
-          with_kind 1 from k.0.1 item to first (post_takes k.0.1 item to t.0.rest_fits post.1)
-      | inr next ↦
-          let first = subst (λ (n : ℕ). Takes from (big_bytes 1 n) k.0.1) (eqb-true _ _ next.0) t.0 in
-          with_kind 2 from k.0.1 item to first (next_takes k.0.1 item to t.0.rest_fits next.1)
+incoming_goes : (kind : ℕ) (r : Reading IncomingItem) → incoming_kinds kind ≡ Some r → Goes r (big_bytes 1 kind) incoming_bytes IsIncoming
+unfolding incoming_kinds
+incoming_goes kind r e =
+    let P : ℕ → Reading IncomingItem → Type 0 = λ k s. Goes s (big_bytes 1 k) incoming_bytes IsIncoming in
+    elim (chosen (eqb kind 1) post_at r (cond (eqb kind 2) (Some next_at) None) e) [
+      | inl post ↦ subst (P kind) post.1 (subst (λ (k : ℕ). P k post_at) (sym (eqb-true _ _ post.0)) post_goes)
+      | inr others ↦ elim (chosen (eqb kind 2) next_at r None others) [
+        | inl next ↦ subst (P kind) next.1 (subst (λ (k : ℕ). P k next_at) (sym (eqb-true _ _ next.0)) next_goes)
+        | inr none ↦ absurd cc
+      ]
     ]
 
--- ---- the record that is all of the bytes
+incoming_again : (item : IncomingItem) → IsIncoming item → Again (by_kind incoming_kinds) (incoming_bytes item) item
+unfolding incoming_kinds post_at next_at
+incoming_again (Post number metric measures) is =
+    again_text (post_bytes number metric.0 measures) (simp (append_assoc, append-nil)) (kind_again incoming_kinds 1 post_at _ _ (lit< tt) refl
+    (again_then _ (numbered 8 1 (2 ^ 63 - 1) (lit< tt)) number (is.first, is.last) (again_then _ (number_field 16) metric.0 is.id (again_then _ (limited 4 50000 (lit< tt)) (length measures) is.count (again_then _ (each_field measure_field (length measures)) measures (refl, is.each)
+    (again_done (Post number metric measures)))))))
+incoming_again (Next number) is =
+    again_text (next_bytes number) (simp append-nil) (kind_again incoming_kinds 2 next_at _ _ (lit< tt) refl
+    (again_then _ (numbered 8 1 (2 ^ 63) (lit< tt)) number (is.first, is.last) (again_done (Next number))))
 
-incoming_takes : (bytes : List ℕ) (item : IncomingItem) → IsBytes bytes → incoming_of bytes ≡ Ok item → IsIncoming item × (bytes ≡ incoming_bytes item)
-unfolding incoming_of
-incoming_takes bytes item fits e =
-    let from : Unread = record { at = 0; rest = bytes } in
-    let a = bind_ok (item_at from) (λ x. cond (eqb (length x.1.rest) 0) (Ok x.0) (Err x.1.at)) item e in
-    let g = passed (eqb (length a.0.1.rest) 0) a.0.0 item a.0.1.at a.2 in
-    let t = item_takes from a.0.0 a.0.1 fits a.1 in
-    let nothing : a.0.1.rest ≡ [] = nil_from_length a.0.1.rest (eqb-true _ _ g.0) in
-    let whole : bytes ≡ incoming_bytes a.0.0 = t.0.parts ∙ ap (λ (r : List ℕ). incoming_bytes a.0.0 ++ r) nothing ∙ append-nil (incoming_bytes a.0.0) in
-    subst (λ (y : IncomingItem). IsIncoming y × (bytes ≡ incoming_bytes y)) g.1 (t.1, whole)
-
--- what is read is spelled so
-pub is_found : (bytes : List ℕ) (r : Result IncomingItem ReadFault) → IsBytes bytes → Answers r (incoming_of bytes) → IfOk r (λ item. IsIncoming item × (bytes ≡ incoming_bytes item))
-is_found bytes (Ok item) fits given = incoming_takes bytes item fits given
-is_found bytes (Err fault) fits given = tt
-
-post_again : (number metric : ℕ) (measures : List Measure) → IsPost number metric measures → incoming_of (incoming_bytes (Post number (record { 0 = metric }) measures)) ≡ Ok (Post number (record { 0 = metric }) measures)
-unfolding incoming_of item_at post_at
-post_again number metric measures is =
-    let last : List ℕ = flat_map measure_bytes measures in
-    let kind = (number_field 1).again 0 (big_bytes 8 number ++ (big_bytes 16 metric ++ (big_bytes 4 (length measures) ++ last))) 1 (lit< tt) in
-    let r0 = (numbered (2 ^ 63 - 1)).again kind.0 (big_bytes 16 metric ++ (big_bytes 4 (length measures) ++ last)) number (omega (arith, is.last), both_true (le-leb _ _ is.first) (le-leb _ _ is.last)) in
-    let r1 = (number_field 16).again r0.0 (big_bytes 4 (length measures) ++ last) metric is.id in
-    let r2 = count_field.again r1.0 last (length measures) (omega (arith, is.count), le-leb _ _ is.count) in
-    let r3 = measures_again r2.0 [] measures (recursion_from_All IsMeasure measures is.each) in
-    rw (kind.1, r0.1, r1.1, r2.1, rw append-nil at r3.1) refl
-
-next_again : (number : ℕ) → IsNext number → incoming_of (incoming_bytes (Next number)) ≡ Ok (Next number)
-unfolding incoming_of item_at next_at
-next_again number is =
-    let kind = (number_field 1).again 0 (big_bytes 8 number) 2 (lit< tt) in
-    let r = (numbered (2 ^ 63)).again kind.0 [] number (omega (arith, is.last), both_true (le-leb _ _ is.first) (le-leb _ _ is.last)) in
-    rw (kind.1, r.1) refl
-
--- what is spelled so is read
-pub incoming_again : (item : IncomingItem) → IsIncoming item → incoming_of (incoming_bytes item) ≡ Ok item
-incoming_again (Post number metric measures) is = post_again number metric.0 measures is
-incoming_again (Next number) is = next_again number is
-
--- no two records have one spelling
-pub incoming_bytes_injective : (x y : IncomingItem) → IsIncoming x → IsIncoming y → incoming_bytes x ≡ incoming_bytes y → x ≡ y
-incoming_bytes_injective x y p q e =
-    ok_is x y (sym (incoming_again x p) ∙ ap incoming_of e ∙ incoming_again y q)
-
--- bytes that are refused spell no record
-pub is_none : (at : ℕ) (bytes : List ℕ) (r : Result IncomingItem ReadFault) → Answers r (incoming_of bytes) → r ≡ Err (faults.Bad at) → (item : IncomingItem) → IsIncoming item → bytes ≡ incoming_bytes item → ⊥
-is_none at bytes r given bad item is e =
-    let refused : incoming_of bytes ≡ Err at = subst (λ (s : Result IncomingItem ReadFault). Answers s (incoming_of bytes)) bad given in
-    let read : incoming_of bytes ≡ Ok item = ap incoming_of e ∙ incoming_again item is in
-    absurd cc
+pub incoming_field : IsField (by_kind incoming_kinds) incoming_bytes IsIncoming
+incoming_field = made_of incoming_bytes IsIncoming (kind_goes incoming_kinds incoming_goes) incoming_again

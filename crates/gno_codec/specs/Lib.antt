@@ -1,3 +1,11 @@
+pub mod Blocks
+pub mod BlocksReading
 pub mod Incoming
 pub mod IncomingReading
+pub mod Index
+pub mod IndexReading
+pub mod Policy
+pub mod PolicyReading
 pub mod Reading
+pub mod Shelf
+pub mod ShelfReading

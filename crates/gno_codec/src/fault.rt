@@ -2,6 +2,7 @@
 ghost use Rattle.std.specs.Prelude.{◌≡◌};
 ghost use Rattle.gno_codec.specs.declared.fault.ReadFault.TheVariants as faults;
 
+use gno_num::Memory;
 use std::alloc::{AllocError, AllocFailed};
 
 /// Why a record could not be read.
@@ -27,6 +28,14 @@ impl<T: Drop> From<AllocFailed<T>> for ReadFault {
     ghost from_gives = { λ _ fault. fault ≡ faults.Memory };
 
     fn from(_: AllocFailed<T>) -> Self {
+        ReadFault::Memory
+    }
+}
+
+impl From<Memory> for ReadFault {
+    ghost from_gives = { λ _ fault. fault ≡ faults.Memory };
+
+    fn from(_: Memory) -> Self {
         ReadFault::Memory
     }
 }

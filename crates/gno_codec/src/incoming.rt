@@ -1,12 +1,13 @@
 // The records of the incoming log.
-ghost use Rattle.std.specs.Prelude.{◌≡◌, ◌≢◌, ◌≤◌, ℕ, ◌-◌, ◌^◌, ◌++◌, length, IfOk, OnOk, Ok};
+ghost use Rattle.std.specs.Prelude.{◌≡◌, ◌≢◌, ◌≤◌, ℕ, ◌-◌, ◌^◌, ◌++◌, length, All, None, IfOk, OnOk, Ok};
+ghost use Rattle.std.specs.List.{flat_map};
 ghost use Rattle.gno_codec.specs.declared.item.IncomingItem.{IncomingItem};
 ghost use Rattle.gno_codec.specs.Incoming.{measure_bytes, post_bytes, next_bytes, incoming_bytes, IsMeasure, IsPost, IsIncoming};
-ghost use Rattle.gno_codec.specs.Reading.{Answers, Gives};
-ghost use Rattle.gno_codec.specs.IncomingReading.{measure_at, measures_at, post_at, next_at, item_at, incoming_of};
+ghost use Rattle.gno_codec.specs.Reading.{Answers, Gives, by_kind, items_at};
+ghost use Rattle.gno_codec.specs.IncomingReading.{measure_at, post_at, next_at, incoming_kinds, incoming_of};
 
 use crate::reading::Reader;
-use crate::writing::{put_u32, put_u64, put_u128};
+use crate::writing::{put_u8, put_u32, put_u64, put_u128};
 use crate::{IncomingItem, ReadFault};
 use gno_num::Memory;
 use series_model::{Batch, Measure, MetricId};
@@ -19,6 +20,11 @@ const NEXT: u8 = 2;
 const LAST_POST: u64 = 0x7fff_ffff_ffff_ffff;
 
 const LAST_NEXT: u64 = 0x8000_0000_0000_0000;
+
+// What a post has in front of its measures.
+const POST_BYTES: usize = 29;
+
+pub(crate) const MEASURE_BYTES: usize = 16;
 
 const MOST_MEASURES: u32 = 50_000;
 
@@ -34,19 +40,27 @@ pub fn write_post(
     ensures has { OnOk result (1 ≤ number → number ≤ 2 ^ 63 - 1 → IsPost number metric.0 batch.now) }
 {
     let measures = batch.measures();
-    let mut out = Vec::new(alloc);
-    out.push(POST)?;
+    let mut out = Vec::with_capacity(alloc, POST_BYTES + MEASURE_BYTES * measures.len())?;
+    put_u8(&mut out, POST)?;
     put_u64(&mut out, number)?;
     put_u128(&mut out, metric.0)?;
     put_u32(&mut out, measures.len() as u32)?;
-    for measure in measures {
-        put_measure(&mut out, measure)?;
-    }
+    put_measures(&mut out, measures)?;
     Ok(out)
 }
 
+pub(crate) fn put_measures(out: &mut Vec<u8>, measures: &[Measure]) -> Result<(), Memory>
+    ensures bytes { OnOk result (out.new.items ≡ out.old.items ++ flat_map measure_bytes measures.now) }
+    ensures is { OnOk result (All IsMeasure measures.now) }
+{
+    for measure in measures {
+        put_measure(out, measure)?;
+    }
+    Ok(())
+}
+
 // After `Memory` the stamp may have been put.
-fn put_measure(out: &mut Vec<u8>, measure: &Measure) -> Result<(), Memory>
+pub(crate) fn put_measure(out: &mut Vec<u8>, measure: &Measure) -> Result<(), Memory>
     ensures bytes { OnOk result (out.new.items ≡ out.old.items ++ measure_bytes measure.now) }
     ensures is { OnOk result (IsMeasure measure.now) }
 {
@@ -83,7 +97,7 @@ pub fn read_incoming(alloc: Global, bytes: &[u8]) -> Result<IncomingItem, ReadFa
     read_all(alloc, bytes)
 }
 
-#[tactic(auto, unfolding(crate::specs::IncomingReading::incoming_of))]
+#[tactic(auto, unfolding(crate::specs::IncomingReading::incoming_of, crate::specs::Reading::whole))]
 fn read_all(alloc: Global, bytes: &[u8]) -> Result<IncomingItem, ReadFault>
     ensures { Answers result (incoming_of bytes.now) }
 {
@@ -96,9 +110,9 @@ fn read_all(alloc: Global, bytes: &[u8]) -> Result<IncomingItem, ReadFault>
     }
 }
 
-#[tactic(auto, unfolding(crate::specs::IncomingReading::item_at))]
+#[tactic(auto, unfolding(crate::specs::Reading::by_kind, crate::specs::Reading::standing_for, crate::specs::Reading::then_at, crate::specs::IncomingReading::incoming_kinds))]
 fn read_item(alloc: Global, reader: &mut Reader<'_>) -> Result<IncomingItem, ReadFault>
-    ensures { Gives (λ item. item) result reader.new (item_at reader.old) }
+    ensures { Gives (λ item. item) result reader.new (by_kind incoming_kinds reader.old) }
 {
     let at = reader.at();
     match reader.u8()? {
@@ -108,7 +122,7 @@ fn read_item(alloc: Global, reader: &mut Reader<'_>) -> Result<IncomingItem, Rea
     }
 }
 
-#[tactic(auto, unfolding(crate::specs::IncomingReading::post_at))]
+#[tactic(auto, unfolding(crate::specs::IncomingReading::post_at, crate::specs::Reading::then_at, crate::specs::Reading::done))]
 fn read_post(alloc: Global, reader: &mut Reader<'_>) -> Result<IncomingItem, ReadFault>
     ensures { Gives (λ item. item) result reader.new (post_at reader.old) }
 {
@@ -126,7 +140,7 @@ fn read_post(alloc: Global, reader: &mut Reader<'_>) -> Result<IncomingItem, Rea
     })
 }
 
-#[tactic(auto, unfolding(crate::specs::IncomingReading::next_at))]
+#[tactic(auto, unfolding(crate::specs::IncomingReading::next_at, crate::specs::Reading::then_at, crate::specs::Reading::done))]
 fn read_next(reader: &mut Reader<'_>) -> Result<IncomingItem, ReadFault>
     ensures { Gives (λ item. item) result reader.new (next_at reader.old) }
 {
@@ -140,10 +154,11 @@ fn read_measures(
     reader: &mut Reader<'_>,
 ) -> Result<Vec<Measure>, ReadFault>
     ensures read { Gives (λ measures. measures.items) result reader.new
-        (measures_at count reader.old) }
+        (items_at (λ _. measure_at) None count reader.old) }
     ensures count { IfOk result (λ measures. length measures.items ≡ count) }
 {
-    let mut measures = Vec::new(alloc);
+    let room = reader.room_for(u64::from(count), MEASURE_BYTES);
+    let mut measures = Vec::with_capacity(alloc, room)?;
     for _ in 0..count {
         let measure = read_measure(reader)?;
         measures.push(measure)?;
@@ -151,8 +166,8 @@ fn read_measures(
     Ok(measures)
 }
 
-#[tactic(auto, unfolding(crate::specs::IncomingReading::measure_at))]
-fn read_measure(reader: &mut Reader<'_>) -> Result<Measure, ReadFault>
+#[tactic(auto, unfolding(crate::specs::IncomingReading::measure_at, crate::specs::Reading::then_at, crate::specs::Reading::done))]
+pub(crate) fn read_measure(reader: &mut Reader<'_>) -> Result<Measure, ReadFault>
     ensures { Gives (λ measure. measure) result reader.new (measure_at reader.old) }
 {
     let at = reader.stamp()?;

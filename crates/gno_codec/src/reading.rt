@@ -1,11 +1,18 @@
 // The fields of records, read from left to right.
-ghost use Rattle.std.specs.Prelude.{◌≡◌, ◌≤◌, ◌*◌, ◌^◌, ◌==◌, nat_lt, nat_le, ◌&&◌, unsigned_abs, length, IfOk};
+ghost use Rattle.std.specs.Prelude.{◌≡◌, ◌<◌, ◌≤◌, ◌*◌, ◌^◌, ◌==◌, nat_lt, nat_le, ◌&&◌, unsigned_abs, length, IfOk};
+ghost use Rattle.std.specs.Int.{w64, w128};
 ghost use Rattle.gno_codec.specs.Reading.{Unread, Gives, bytes_at, number_at, signed_at, tested};
+ghost use Rattle.gno_codec.specs.IncomingReading.{stamp_at, value_at};
+ghost use Rattle.gno_codec.specs.BlocksReading.{count_at, num_at};
 
 use crate::ReadFault;
 use byteorder::{BigEndian, ByteOrder};
 use gno_num::{Stamp, Value};
 use std::marker::Model;
+
+const MOST_POINTS: u16 = 3_600;
+
+const LARGEST: u128 = 100_000_000_000_000_000_000_000_000_000_000_000_000;
 
 // Bytes that are still to read, and the place of the first of them.
 #[derive(Drop)]
@@ -45,8 +52,20 @@ impl<'a> Reader<'a> {
         self.rest.is_empty()
     }
 
+    // For how many items of so many bytes there is room: `count`, or fewer where the bytes end.
+    pub(crate) fn room_for(&self, count: u64, size: usize) -> usize
+        requires { 0 < size }
+    {
+        let most = self.rest.len() / size;
+        if count < most as u64 {
+            count as usize
+        } else {
+            most
+        }
+    }
+
     #[tactic(auto, unfolding(crate::specs::Reading::bytes_at))]
-    fn bytes(&mut self, n: usize) -> Result<&'a [u8], ReadFault>
+    pub(crate) fn bytes(&mut self, n: usize) -> Result<&'a [u8], ReadFault>
         ensures read { Gives (λ bytes. bytes.now) result self.new (bytes_at n self.old) }
         ensures len { IfOk result (λ bytes. length bytes.now ≡ n) }
     {
@@ -59,37 +78,44 @@ impl<'a> Reader<'a> {
         Ok(front)
     }
 
-    #[tactic(auto, unfolding(crate::specs::Reading::number_at))]
+    #[tactic(auto, unfolding(crate::specs::Reading::number_at, crate::specs::Reading::then_at, crate::specs::Reading::done))]
     pub(crate) fn u8(&mut self) -> Result<u8, ReadFault>
         ensures { Gives (λ n. n) result self.new (number_at 1 self.old) }
     {
         Ok(self.bytes(1)?[0])
     }
 
-    #[tactic(auto, unfolding(crate::specs::Reading::number_at))]
-    fn u32(&mut self) -> Result<u32, ReadFault>
+    #[tactic(auto, unfolding(crate::specs::Reading::number_at, crate::specs::Reading::then_at, crate::specs::Reading::done))]
+    pub(crate) fn u16(&mut self) -> Result<u16, ReadFault>
+        ensures { Gives (λ n. n) result self.new (number_at 2 self.old) }
+    {
+        Ok(BigEndian::read_u16(self.bytes(2)?))
+    }
+
+    #[tactic(auto, unfolding(crate::specs::Reading::number_at, crate::specs::Reading::then_at, crate::specs::Reading::done))]
+    pub(crate) fn u32(&mut self) -> Result<u32, ReadFault>
         ensures { Gives (λ n. n) result self.new (number_at 4 self.old) }
     {
         Ok(BigEndian::read_u32(self.bytes(4)?))
     }
 
-    #[tactic(auto, unfolding(crate::specs::Reading::number_at))]
-    fn u64(&mut self) -> Result<u64, ReadFault>
+    #[tactic(auto, unfolding(crate::specs::Reading::number_at, crate::specs::Reading::then_at, crate::specs::Reading::done))]
+    pub(crate) fn u64(&mut self) -> Result<u64, ReadFault>
         ensures { Gives (λ n. n) result self.new (number_at 8 self.old) }
     {
         Ok(BigEndian::read_u64(self.bytes(8)?))
     }
 
-    #[tactic(auto, unfolding(crate::specs::Reading::number_at))]
+    #[tactic(auto, unfolding(crate::specs::Reading::number_at, crate::specs::Reading::then_at, crate::specs::Reading::done))]
     pub(crate) fn u128(&mut self) -> Result<u128, ReadFault>
         ensures { Gives (λ n. n) result self.new (number_at 16 self.old) }
     {
         Ok(BigEndian::read_u128(self.bytes(16)?))
     }
 
-    #[tactic(auto, unfolding(crate::specs::Reading::signed_at))]
+    #[tactic(auto, unfolding(crate::specs::Reading::signed_at, crate::specs::Reading::then_at, crate::specs::Reading::done))]
     fn i64(&mut self) -> Result<i64, ReadFault>
-        ensures { Gives (λ n. n) result self.new (signed_at self.old) }
+        ensures { Gives (λ n. n) result self.new (signed_at w64 self.old) }
     {
         Ok(self.u64()?.cast_signed())
     }
@@ -103,6 +129,104 @@ impl<'a> Reader<'a> {
         let at = self.at();
         let number = self.u64()?;
         if least <= number && number <= most {
+            Ok(number)
+        } else {
+            Err(ReadFault::Bad { at })
+        }
+    }
+
+    // A number from `least` on.
+    #[tactic(auto, unfolding(crate::specs::Reading::tested))]
+    pub(crate) fn u8_from(&mut self, least: u8) -> Result<u8, ReadFault>
+        ensures read { Gives (λ n. n) result self.new
+            (tested (λ n. nat_le least n) (number_at 1) self.old) }
+        ensures least { IfOk result (λ n. least ≤ n) }
+    {
+        let at = self.at();
+        let number = self.u8()?;
+        if least <= number {
+            Ok(number)
+        } else {
+            Err(ReadFault::Bad { at })
+        }
+    }
+
+    // How many points or measures a block has.
+    #[tactic(auto, unfolding(crate::specs::Reading::tested, crate::specs::BlocksReading::count_at))]
+    pub(crate) fn count(&mut self) -> Result<u16, ReadFault>
+        ensures { Gives (λ n. n) result self.new (count_at self.old) }
+    {
+        let at = self.at();
+        let count = self.u16()?;
+        if 1 <= count && count <= MOST_POINTS {
+            Ok(count)
+        } else {
+            Err(ReadFault::Bad { at })
+        }
+    }
+
+    // A signed number of sixteen bytes.
+    #[tactic(auto, unfolding(crate::specs::Reading::signed_at, crate::specs::Reading::then_at, crate::specs::Reading::done))]
+    fn i128(&mut self) -> Result<i128, ReadFault>
+        ensures { Gives (λ n. n) result self.new (signed_at w128 self.old) }
+    {
+        Ok(self.u128()?.cast_signed())
+    }
+
+    // The numerator of a fraction.
+    #[tactic(auto, unfolding(crate::specs::Reading::tested, crate::specs::BlocksReading::num_at))]
+    pub(crate) fn numerator(&mut self) -> Result<i128, ReadFault>
+        ensures read { Gives (λ n. n) result self.new (num_at self.old) }
+        ensures small { IfOk result (λ n. unsigned_abs n ≤ 10 ^ 38) }
+    {
+        let at = self.at();
+        let num = self.i128()?;
+        if num.unsigned_abs() <= LARGEST {
+            Ok(num)
+        } else {
+            Err(ReadFault::Bad { at })
+        }
+    }
+
+    // A number up to `most`.
+    #[tactic(auto, unfolding(crate::specs::Reading::tested))]
+    pub(crate) fn u8_to(&mut self, most: u8) -> Result<u8, ReadFault>
+        ensures { Gives (λ n. n) result self.new
+            (tested (λ n. nat_le n most) (number_at 1) self.old) }
+    {
+        let at = self.at();
+        let number = self.u8()?;
+        if number <= most {
+            Ok(number)
+        } else {
+            Err(ReadFault::Bad { at })
+        }
+    }
+
+    // A number from `least` on.
+    #[tactic(auto, unfolding(crate::specs::Reading::tested))]
+    pub(crate) fn u32_from(&mut self, least: u32) -> Result<u32, ReadFault>
+        ensures { Gives (λ n. n) result self.new
+            (tested (λ n. nat_le least n) (number_at 4) self.old) }
+    {
+        let at = self.at();
+        let number = self.u32()?;
+        if least <= number {
+            Ok(number)
+        } else {
+            Err(ReadFault::Bad { at })
+        }
+    }
+
+    // A number up to `most`.
+    #[tactic(auto, unfolding(crate::specs::Reading::tested))]
+    pub(crate) fn u64_to(&mut self, most: u64) -> Result<u64, ReadFault>
+        ensures { Gives (λ n. n) result self.new
+            (tested (λ n. nat_le n most) (number_at 8) self.old) }
+    {
+        let at = self.at();
+        let number = self.u64()?;
+        if number <= most {
             Ok(number)
         } else {
             Err(ReadFault::Bad { at })
@@ -125,20 +249,20 @@ impl<'a> Reader<'a> {
         }
     }
 
-    #[tactic(auto, unfolding(crate::specs::Reading::tested))]
+    #[tactic(auto, unfolding(crate::specs::Reading::tested, crate::specs::IncomingReading::stamp_at))]
     pub(crate) fn stamp(&mut self) -> Result<Stamp, ReadFault>
         ensures { Gives (λ stamp. stamp) result self.new
-            (tested (λ nanos. nat_lt nanos (9 * 10 ^ 18)) (number_at 8) self.old) }
+            (stamp_at self.old) }
     {
         let at = self.at();
         let nanos = self.u64()?;
         Stamp::of_nanos(nanos).ok_or(ReadFault::Bad { at })
     }
 
-    #[tactic(auto, unfolding(crate::specs::Reading::tested))]
+    #[tactic(auto, unfolding(crate::specs::Reading::tested, crate::specs::IncomingReading::value_at))]
     pub(crate) fn value(&mut self) -> Result<Value, ReadFault>
         ensures { Gives (λ value. value) result self.new
-            (tested (λ units. nat_le (unsigned_abs units) (10 ^ 18)) signed_at self.old) }
+            (value_at self.old) }
     {
         let at = self.at();
         let units = self.i64()?;

@@ -5,6 +5,24 @@ ghost use Rattle.byteorder.specs.Endian.{big_bytes};
 use byteorder::{BigEndian, ByteOrder};
 use gno_num::Memory;
 
+pub(crate) fn put_u8(out: &mut Vec<u8>, number: u8) -> Result<(), Memory>
+    ensures ok { OnOk result (out.new.items ≡ out.old.items ++ big_bytes 1 number) }
+    ensures err { OnErr result (out.new.items ≡ out.old.items) }
+{
+    out.push(number)?;
+    Ok(())
+}
+
+pub(crate) fn put_u16(out: &mut Vec<u8>, number: u16) -> Result<(), Memory>
+    ensures ok { OnOk result (out.new.items ≡ out.old.items ++ big_bytes 2 number) }
+    ensures err { OnErr result (out.new.items ≡ out.old.items) }
+{
+    let mut bytes = [0; 2];
+    BigEndian::write_u16(&mut bytes, number);
+    out.extend_from_slice(&bytes)?;
+    Ok(())
+}
+
 pub(crate) fn put_u32(out: &mut Vec<u8>, number: u32) -> Result<(), Memory>
     ensures ok { OnOk result (out.new.items ≡ out.old.items ++ big_bytes 4 number) }
     ensures err { OnErr result (out.new.items ≡ out.old.items) }

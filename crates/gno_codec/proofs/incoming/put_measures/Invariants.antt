@@ -1,7 +1,7 @@
 use Rattle.std.proofs.Common.{◌≡◌, ◌++◌, take, All}
 use Rattle.std.specs.List.{flat_map}
 use Rattle.gno_codec.specs.Incoming.{measure_bytes, IsMeasure}
-use Rattle.gno_codec.proofs.incoming.write_post.Given as goal
+use Rattle.gno_codec.proofs.incoming.put_measures.Given as goal
 
 abbrev pub invariant-loop-measure : goal.invariant-loop-measure
 invariant-loop-measure l =

@@ -2,11 +2,11 @@ use Rattle.std.proofs.Common.{subst}
 use Rattle.std.proofs.lemmas.List.Elements.{All-more}
 use Rattle.gno_codec.specs.Incoming.{measure_bytes, IsMeasure}
 use Rattle.gno_codec.proofs.Writes.{one_more_item}
-use Rattle.gno_codec.proofs.incoming.write_post.Goals as goal
+use Rattle.gno_codec.proofs.incoming.put_measures.Goals as goal
 
 pub loop-measure-preserved : goal.loop-measure-preserved
 loop-measure-preserved c =
-    let measures = c.measures-measures.result.now in
+    let measures = c.args.measures.now in
     let i = c.loop-measure.measure-index in
     let m = c.measure-item.result in
     let put = c.in_ok-put_measure.ensures in
