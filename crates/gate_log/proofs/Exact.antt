@@ -3,7 +3,7 @@ use Rattle.std.proofs.Common.{◌≡◌, ◌≢◌, ◌⊎◌, ℕ, ◌+◌, ◌
 use Rattle.std.proofs.lemmas.List.{take_at, drop_at}
 use Rattle.byteorder.specs.Endian.{big_bytes, big_number}
 use Rattle.byteorder.specs.Numbers.{length-bytes_high_first, big_number-reads_back}
-use Rattle.gate_log.specs.Records.{HasNoLog, Holds, HoldsNoList, IsCutShort, IsDamaged, log_bytes, record_bytes}
+use Rattle.gate_log.specs.Records.{BeginsWith, HasNoLog, Holds, HoldsNoList, IsCutShort, IsDamaged, log_bytes, record_bytes}
 use Rattle.gate_log.proofs.Moments.{told_with}
 
 -- a record and what stands behind it, with the body apart
@@ -19,12 +19,12 @@ record_long body rest =
     omega (arith, ap length (record_apart body rest), length-append (1 ∷ big_bytes 8 (length body)) (body ++ rest), head_long (length body), length-append body rest)
 
 -- the length that is spelled is that of the body
-spelled : (body rest : List ℕ) → length body ≤ 2 ^ 60 → big_number 8 (drop 1 (record_bytes body ++ rest)) ≡ length body
+spelled : (body rest : List ℕ) → length body < 2 ^ 64 → big_number 8 (drop 1 (record_bytes body ++ rest)) ≡ length body
 spelled body rest short =
     ap (λ (l : List ℕ). big_number 8 (drop 1 l)) (record_apart body rest) ∙ big_number-reads_back 8 (length body) (body ++ rest) (omega arith)
 
 -- equal bytes begin with the same record
-same_front : (a b s t : List ℕ) → length a ≤ 2 ^ 60 → length b ≤ 2 ^ 60 → record_bytes a ++ s ≡ record_bytes b ++ t → (a ≡ b) × (s ≡ t)
+same_front : (a b s t : List ℕ) → length a < 2 ^ 64 → length b < 2 ^ 64 → record_bytes a ++ s ≡ record_bytes b ++ t → (a ≡ b) × (s ≡ t)
 same_front a b s t short_a short_b same =
     let len : length a ≡ length b = sym (spelled a s short_a) ∙ ap (λ (l : List ℕ). big_number 8 (drop 1 l)) same ∙ spelled b t short_b in
     let behind : a ++ s ≡ b ++ t =
@@ -37,6 +37,24 @@ same_front a b s t short_a short_b same =
 -- the first record apart from the others
 first_apart : (body : List ℕ) (records : List (List ℕ)) (rest : List ℕ) → log_bytes (body ∷ records) ++ rest ≡ record_bytes body ++ (log_bytes records ++ rest)
 first_apart body records rest = append_assoc (record_bytes body) (log_bytes records) rest
+
+-- bytes begin with one record
+pub BeginsWith-one : (a b bytes : List ℕ) → length a < 2 ^ 64 → length b < 2 ^ 64 → BeginsWith a bytes → BeginsWith b bytes → a ≡ b
+BeginsWith-one a b bytes short_a short_b first second =
+    let one : bytes ≡ record_bytes a ++ first.begins.rest = first.begins.bytes_are ∙ first_apart a [] first.begins.rest in
+    let two : bytes ≡ record_bytes b ++ second.begins.rest = second.begins.bytes_are ∙ first_apart b [] second.begins.rest in
+    (same_front a b first.begins.rest second.begins.rest short_a short_b (sym one ∙ two)).0
+
+-- the first of the records that are held stands first
+pub Holds-first : (bytes body : List ℕ) (records : List (List ℕ)) → Holds bytes (body ∷ records) → BeginsWith body bytes
+Holds-first bytes body records held =
+    let rest = log_bytes records ++ held.gate ∷ held.rest in
+    let apart : bytes ≡ record_bytes body ++ rest = held.bytes_are ∙ first_apart body records (held.gate ∷ held.rest) in
+    let whole : bytes ≡ log_bytes (body ∷ []) ++ rest = apart ∙ sym (first_apart body [] rest) in
+    record {
+      begins = record { rest = rest; bytes_are = whole };
+      next_gate = omega (arith, ap length whole, length-append (log_bytes (body ∷ [])) rest, length-append (log_bytes records) (held.gate ∷ held.rest));
+    }
 
 -- the same bytes begin with one record
 same_first : (a b : List ℕ) (rs ss : List (List ℕ)) (s t : List ℕ) → length (log_bytes (a ∷ rs) ++ s) ≤ 2 ^ 60 → log_bytes (a ∷ rs) ++ s ≡ log_bytes (b ∷ ss) ++ t → (a ≡ b) × (log_bytes rs ++ s ≡ log_bytes ss ++ t)

@@ -293,6 +293,7 @@ impl<D: Disk> Log<D> {
         ensures records { OnOk result (IfSome self.new.records
             (λ records. records ≡ first.now ∷ bodies_of rest.now)) }
         ensures told { is_some (D.told self.new.disk) ≡ is_some (D.told self.old.disk) }
+        ensures records_told { is_some self.new.records ≡ is_some (D.told self.new.disk) }
         ensures later { D.faults self.old.disk ≤ D.faults self.new.disk }
         ensures came { D.came 9 self.old.disk self.new.disk }
         ensures cause { IfErr result (λ e. MatchFault e

@@ -1,0 +1,5 @@
+pub mod Choice
+pub mod Header
+pub mod Inside
+pub mod Pair
+pub mod PairView
