@@ -4,10 +4,10 @@ use Rattle.std.specs.Int.{Width, w64, w128, byte_len, byte_at, bytes_high_first,
 use Rattle.std.specs.Prelude.{FitsSigned}
 use Rattle.std.proofs.lemmas.Bool.{cases_lt, ltb-false, le-ltb}
 use Rattle.std.proofs.lemmas.List.{take_at, drop_at, take-append-drop, append-nil, length-append, length-take, length-take-le, get_or-drop, get_or-take, get_or_past}
-use Rattle.std.proofs.lemmas.Nat.{div-mul-add}
+use Rattle.std.proofs.lemmas.Nat.{div-mul-add, pow-add}
 use Rattle.std.proofs.lemmas.Int.{of_z-to_z, to_z-of_z}
 use Rattle.std.proofs.Math.Facts.{sfits_to_z}
-use Rattle.std.proofs.Math.Nat.{div-one, pow-suc, pow-succ', mul-add-div_right, mul-add-mod_self_right, mul_assoc}
+use Rattle.std.proofs.Math.Nat.{div-div-eq-div-mul, div-one, pow-suc, pow-succ', mul-add-div_right, mul-add-mod_self_right, mul_assoc}
 use Rattle.byteorder.specs.Endian.{big_from, big_number, big_bytes}
 use Rattle.byteorder.specs.Numbers.{big_from-cons, big_from-lt, big_number-reads_back, length-bytes_high_first}
 use Rattle.gno_codec.specs.Reading.{Unread, then_at, done, bytes_at, number_at, signed_at}
@@ -73,6 +73,27 @@ bytes_high_first-add (suc n) a r =
     let top : byte_at n ((a * 256) * p + r) ≡ byte_at n r = byte_at-div n _ ∙ ap (λ (k : ℕ). k % 256) (mul-add-div_right (pow_256_pos n) (a * 256) r) ∙ mul-add-mod_self_right a 256 (r / p) ∙ sym (byte_at-div n r) in
     ap (bytes_high_first (suc n)) moved ∙ ap (λ (b : ℕ). b ∷ bytes_high_first n ((a * 256) * p + r)) top
     ∙ ap (λ (bs : List ℕ). byte_at n r ∷ bs) (bytes_high_first-add n (a * 256) r)
+
+-- the bytes of a number, as those of its two parts
+bytes_high_first-parts : (m k n : ℕ) → bytes_high_first (m + k) n ≡ bytes_high_first m (n / 256 ^ k) ++ bytes_high_first k n
+bytes_high_first-parts zero k n = let same : 0 + k ≡ k = omega arith in ap (λ (x : ℕ). bytes_high_first x n) same
+bytes_high_first-parts (suc m) k n =
+    let count : suc m + k ≡ suc (m + k) = omega arith in
+    let top : byte_at (m + k) n ≡ byte_at m (n / 256 ^ k) = byte_at-div (m + k) n ∙ ap (λ (x : ℕ). x % 256) (down m k n) ∙ sym (byte_at-div m (n / 256 ^ k)) in
+    ap (λ (x : ℕ). bytes_high_first x n) count ∙ ap (λ (b : ℕ). b ∷ bytes_high_first (m + k) n) top
+    ∙ ap (λ (bs : List ℕ). byte_at m (n / 256 ^ k) ∷ bs) (bytes_high_first-parts m k n)
+  where
+    down : (m k n : ℕ) → n / 256 ^ (m + k) ≡ n / 256 ^ k / 256 ^ m
+    down m k n =
+        let turned : m + k ≡ k + m = omega arith in
+        ap (λ (x : ℕ). n / 256 ^ x) turned ∙ ap (λ (x : ℕ). n / x) (pow-add 256 k m) ∙ sym (div-div-eq-div-mul n (256 ^ k) (256 ^ m))
+
+-- a number of sixteen bytes, as its two halves
+pub halves : (n : ℕ) → big_bytes 8 (n / 2 ^ 64) ++ big_bytes 8 (n % 2 ^ 64) ≡ big_bytes 16 n
+halves n =
+    let whole : n / 2 ^ 64 * 256 ^ 8 + n % 2 ^ 64 ≡ n = omega arith in
+    let low : big_bytes 8 n ≡ big_bytes 8 (n % 2 ^ 64) = ap (big_bytes 8) (sym whole) ∙ bytes_high_first-add 8 (n / 2 ^ 64) (n % 2 ^ 64) in
+    ap (λ (bs : List ℕ). big_bytes 8 (n / 2 ^ 64) ++ bs) (sym low) ∙ sym (bytes_high_first-parts 8 8 n)
 
 IsBytes-rest : (b : ℕ) (bytes : List ℕ) → IsBytes (b ∷ bytes) → IsBytes bytes
 IsBytes-rest b bytes h i = h (suc i)

@@ -33,9 +33,6 @@ table_from = (refl, (refl, (refl, (refl, (refl, (refl, (refl, (refl, (refl, (ref
 
 -- ---- the number that kinds with set bits make
 
-is_bit : ℕ → Bool
-is_bit q = eqb (q % 2) 1
-
 odd : (q : ℕ) → eqb (q % 2) 1 ≡ true → q % 2 ≡ 1
 odd q e = eqb-true _ _ e
 

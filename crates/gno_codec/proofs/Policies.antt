@@ -1,5 +1,5 @@
 -- Names and policies: what is read is spelled so, and what is spelled so is read.
-use Rattle.std.proofs.Common.{◌≡◌, ℕ, ◌*◌, ◌%◌, ◌^◌, ◌<◌, ◌≤◌, Bool, true, false, cond, eqb, leb, not, ◌&&◌, inl, inr, List, [], ◌∷◌, ◌++◌, length, map, Option, Some, None, Result, Ok, Err, refl, sym, ap, subst, ◌∙◌, append_assoc, arith, lit<}
+use Rattle.std.proofs.Common.{◌≡◌, ℕ, ◌*◌, ◌^◌, ◌<◌, ◌≤◌, Bool, true, false, cond, eqb, leb, not, ◌&&◌, inl, inr, List, [], ◌∷◌, ◌++◌, length, map, Option, Some, None, Result, Ok, Err, refl, sym, ap, subst, ◌∙◌, append_assoc, arith, lit<}
 use Rattle.std.specs.Prelude.{IfSome, is_none}
 use Rattle.gno_num.specs.Span.{IsSpan}
 use Rattle.std.specs.List.{flat_map, list_all, AllByRecursion}
@@ -76,9 +76,6 @@ text_field n some few =
     tested_field (list_all is_name_byte) (bytes_field n) (λ text. (length text ≡ n) × IsName text)
     (λ text has e. (has.0, text_is text (omega (arith, has.0)) (omega (arith, has.0)) e))
     (λ text is. ((is.0, name_fits text is.1), text_passes text is.1))
-
-big_byte : (n : ℕ) → n < 256 → big_bytes 1 n ≡ n ∷ []
-big_byte n lt = let same : n % 256 ≡ n = omega arith in ap (λ (b : ℕ). b ∷ []) same
 
 pub name_field : IsField name_at name_bytes IsName
 unfolding name_at
@@ -263,14 +260,3 @@ unfolding text_at tested
 text_read n len from text name to same read named is =
     let bytes : bytes_at len from ≡ Ok (text, to) = ap (λ (k : ℕ). bytes_at k from) (sym same) ∙ read in
     rw (bytes, text_passes text is) (ap (λ (t : List ℕ). Ok (t, to)) (sym named))
-
-pub text_refused : (n len : ℕ) (from : Unread) (text : List ℕ) (to : Unread) → 1 ≤ len → len < 256 → n ≡ len → bytes_at n from ≡ Ok (text, to) → length text ≡ n → (IsName text → ⊥) → text_at len from ≡ Err from.at
-unfolding text_at tested
-text_refused n len from text to some few same read count no_name =
-    let bytes : bytes_at len from ≡ Ok (text, to) = ap (λ (k : ℕ). bytes_at k from) (sym same) ∙ read in
-    let failed : list_all is_name_byte text ≡ false = by (list_all is_name_byte text) refl in
-    rw (bytes, failed) refl
-  where
-    by : (b : Bool) → list_all is_name_byte text ≡ b → b ≡ false
-    by false e = refl
-    by true e = absurd (no_name (text_is text (omega (arith, some, same, count)) (omega (arith, few, same, count)) e))

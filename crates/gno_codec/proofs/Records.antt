@@ -105,9 +105,6 @@ pub chosen : {A : Type 0} (b : Bool) (x y : A) (other : Option A) → cond b (So
 chosen true x y other e = inl (refl, cc)
 chosen false x y other e = inr e
 
-pub chosen_some : {A : Type 0} (b : Bool) (x y : A) (other : Option A) → cond b (Some x) other ≡ Some y → ((b ≡ true) × (x ≡ y)) ⊎ (other ≡ Some y)
-chosen_some b x y other e = chosen b x y other e
-
 -- what reads the record of one first byte
 pub goes_as : {A : Type 0} {all : A → List ℕ} {Is : A → Type 0} (kind own : ℕ) (reading r : Reading A) → eqb kind own ≡ true → reading ≡ r → Goes reading (big_bytes 1 own) all Is → Goes r (big_bytes 1 kind) all Is
 goes_as {A} {all} {Is} kind own reading r e same goes =

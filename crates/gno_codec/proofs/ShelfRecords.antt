@@ -22,7 +22,7 @@ use Rattle.gno_codec.specs.Reading.{Unread, Reading, done, number_at, standing_f
 use Rattle.gno_codec.specs.ShelfReading.{last_for, last_at, block_at, stored_at, kind_at, change_at, comes_behind_by_kind, comes_behind, is_behind, change_after, blocks_at, changes_at, register_at, commit_at, drop_at, shelf_kinds}
 use Rattle.gno_codec.proofs.Steps.{IsField, Goes, Again, IsChain, goes_then, goes_done, goes_last, goes_if, again_then, again_done, again_field, again_text, made_of, standing_field, tested_field, items_field, goes_choice, flat_4, flat_7}
 use Rattle.gno_codec.proofs.Fields.{number_field}
-use Rattle.gno_codec.proofs.Records.{both_passed, at_least, limited, stamp_field, measure_field, each_field, kind_goes, kind_again, chosen, chosen_some, goes_as}
+use Rattle.gno_codec.proofs.Records.{both_passed, at_least, limited, stamp_field, measure_field, each_field, kind_goes, kind_again, chosen, goes_as}
 use Rattle.gno_codec.proofs.KindBits.{kind_of_place}
 use Rattle.gno_codec.proofs.Policies.{policy_field, not_zero, positive}
 
@@ -53,9 +53,9 @@ optional_field {A} {field} {spelled} {Has} is = made_of (optional_bytes spelled)
 last_there : (n : ℕ) (last : Option ℕ) → n < 256 ^ 8 → last_for n ≡ Some last → (last_bytes last ≡ big_bytes 8 n) × IfSome last (λ at. at < 9 * 10 ^ 18)
 last_there n last fits e =
     let Q : Option ℕ → Type 0 = λ l. (last_bytes l ≡ big_bytes 8 n) × IfSome l (λ at. at < 9 * 10 ^ 18) in
-    elim (chosen_some (ltb n (9 * 10 ^ 18)) (Some n) last (cond (eqb n (2 ^ 64 - 1)) (Some None) None) e) [
+    elim (chosen (ltb n (9 * 10 ^ 18)) (Some n) last (cond (eqb n (2 ^ 64 - 1)) (Some None) None) e) [
       | inl stamp ↦ subst Q stamp.1 (refl, ltb-true _ _ stamp.0)
-      | inr others ↦ elim (chosen_some (eqb n (2 ^ 64 - 1)) None last None others) [
+      | inr others ↦ elim (chosen (eqb n (2 ^ 64 - 1)) None last None others) [
         | inl none ↦ subst Q none.1 (ap (big_bytes 8) (sym (eqb-true _ _ none.0)), tt)
         | inr nothing ↦ absurd cc
       ]

@@ -124,9 +124,6 @@ again_done y = record { reads = λ at rest. (at, refl) }
 pub again_else : {B : Type 0} {text : List ℕ} {y : B} (b : Bool) (k j : Reading B) → b ≡ false → Again j text y → Again (cond b k j) text y
 again_else {B} {text} {y} b k j e is = subst (λ (c : Bool). Again (cond c k j) text y) (sym e) is
 
-pub again_where : {B : Type 0} {text : List ℕ} {y : B} (b : Bool) (k j : Reading B) → b ≡ true → Again k text y → Again (cond b k j) text y
-again_where {B} {text} {y} b k j e is = subst (λ (c : Bool). Again (cond c k j) text y) (sym e) is
-
 -- four texts one after the other
 pub flat_4 : (a b c d : List ℕ) → a ++ (b ++ (c ++ (d ++ []))) ≡ a ++ b ++ c ++ d
 flat_4 a b c d = simp (append_assoc, append-nil)

@@ -19,8 +19,3 @@ pub one_more_at : {X : Type 0} (f : X → List ℕ) (d : X) (start out new : Lis
 one_more_at {X} f d start out new xs i lt so_far more =
     let front : take (i + 1) xs ≡ take i xs ++ get_or xs i d ∷ [] = take_more xs i d lt in
     more ∙ ap (λ (bs : List ℕ). bs ++ f (get_or xs i d)) so_far ∙ flat_map_more f start (take i xs) (get_or xs i d) ∙ ap (λ (ys : List X). start ++ flat_map f ys) (sym front)
-
--- three fields
-pub three_fields : (before one two after first second third : List ℕ) → one ≡ before ++ first → two ≡ one ++ second → after ≡ two ++ third → after ≡ before ++ (first ++ second ++ third)
-three_fields before one two after first second third p q r =
-    two_fields before two after (first ++ second) third (two_fields before one two first second p q) r

@@ -1,6 +1,7 @@
 // The records of the incoming log.
 ghost use Rattle.std.specs.Prelude.{◌≡◌, ◌≢◌, ◌≤◌, ℕ, ◌-◌, ◌^◌, ◌++◌, length, All, None, IfOk, OnOk, Ok};
 ghost use Rattle.std.specs.List.{flat_map};
+ghost use Rattle.byteorder.specs.Endian.{big_bytes};
 ghost use Rattle.gno_codec.specs.declared.item.IncomingItem.{IncomingItem};
 ghost use Rattle.gno_codec.specs.Incoming.{measure_bytes, post_bytes, next_bytes, incoming_bytes, IsMeasure, IsPost, IsIncoming};
 ghost use Rattle.gno_codec.specs.Reading.{Answers, Gives, by_kind, items_at};
@@ -9,6 +10,7 @@ ghost use Rattle.gno_codec.specs.IncomingReading.{measure_at, post_at, next_at, 
 use crate::reading::Reader;
 use crate::writing::{put_u8, put_u32, put_u64, put_u128};
 use crate::{IncomingItem, ReadFault};
+use byteorder::{BigEndian, ByteOrder};
 use gno_num::Memory;
 use series_model::{Batch, Measure, MetricId};
 use std::alloc::Global;
@@ -59,14 +61,28 @@ pub(crate) fn put_measures(out: &mut Vec<u8>, measures: &[Measure]) -> Result<()
     Ok(())
 }
 
-// After `Memory` the stamp may have been put.
+#[inline(always)]
 pub(crate) fn put_measure(out: &mut Vec<u8>, measure: &Measure) -> Result<(), Memory>
     ensures bytes { OnOk result (out.new.items ≡ out.old.items ++ measure_bytes measure.now) }
     ensures is { OnOk result (IsMeasure measure.now) }
 {
-    put_u64(out, measure.at.nanos())?;
-    put_u64(out, measure.value.units().cast_unsigned())?;
+    let mut bytes = [0; MEASURE_BYTES];
+    fill(
+        &mut bytes,
+        measure.at.nanos(),
+        measure.value.units().cast_unsigned(),
+    );
+    out.extend_from_slice(&bytes)?;
     Ok(())
+}
+
+#[inline(always)]
+fn fill(bytes: &mut [u8], at: u64, units: u64)
+    requires { length bytes.old ≡ 16 }
+    ensures { bytes.new ≡ big_bytes 8 at ++ big_bytes 8 units }
+{
+    BigEndian::write_u64(bytes, at);
+    BigEndian::write_u64(&mut bytes[8..], units);
 }
 
 /// The record of a next number, from 1 to 2^63.
@@ -167,6 +183,7 @@ fn read_measures(
 }
 
 #[tactic(auto, unfolding(crate::specs::IncomingReading::measure_at, crate::specs::Reading::then_at, crate::specs::Reading::done))]
+#[inline(always)]
 pub(crate) fn read_measure(reader: &mut Reader<'_>) -> Result<Measure, ReadFault>
     ensures { Gives (λ measure. measure) result reader.new (measure_at reader.old) }
 {

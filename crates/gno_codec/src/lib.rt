@@ -1,4 +1,5 @@
-//! The records on disk, field by field: each value has one spelling. Numbers are big-endian.
+//! The records and blocks on disk, field by field: each value has one spelling. Numbers are
+//! big-endian.
 #![tactic(auto)]
 
 mod fault;

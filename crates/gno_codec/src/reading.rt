@@ -40,6 +40,7 @@ impl<'a> Reader<'a> {
     }
 
     // The place of the first byte that is still to read.
+    #[inline(always)]
     pub(crate) fn at(&self) -> u64
         ensures { result ≡ self.now.at }
     {
@@ -65,6 +66,7 @@ impl<'a> Reader<'a> {
     }
 
     #[tactic(auto, unfolding(crate::specs::Reading::bytes_at))]
+    #[inline(always)]
     pub(crate) fn bytes(&mut self, n: usize) -> Result<&'a [u8], ReadFault>
         ensures read { Gives (λ bytes. bytes.now) result self.new (bytes_at n self.old) }
         ensures len { IfOk result (λ bytes. length bytes.now ≡ n) }
@@ -79,6 +81,7 @@ impl<'a> Reader<'a> {
     }
 
     #[tactic(auto, unfolding(crate::specs::Reading::number_at, crate::specs::Reading::then_at, crate::specs::Reading::done))]
+    #[inline(always)]
     pub(crate) fn u8(&mut self) -> Result<u8, ReadFault>
         ensures { Gives (λ n. n) result self.new (number_at 1 self.old) }
     {
@@ -86,6 +89,7 @@ impl<'a> Reader<'a> {
     }
 
     #[tactic(auto, unfolding(crate::specs::Reading::number_at, crate::specs::Reading::then_at, crate::specs::Reading::done))]
+    #[inline(always)]
     pub(crate) fn u16(&mut self) -> Result<u16, ReadFault>
         ensures { Gives (λ n. n) result self.new (number_at 2 self.old) }
     {
@@ -93,6 +97,7 @@ impl<'a> Reader<'a> {
     }
 
     #[tactic(auto, unfolding(crate::specs::Reading::number_at, crate::specs::Reading::then_at, crate::specs::Reading::done))]
+    #[inline(always)]
     pub(crate) fn u32(&mut self) -> Result<u32, ReadFault>
         ensures { Gives (λ n. n) result self.new (number_at 4 self.old) }
     {
@@ -100,6 +105,7 @@ impl<'a> Reader<'a> {
     }
 
     #[tactic(auto, unfolding(crate::specs::Reading::number_at, crate::specs::Reading::then_at, crate::specs::Reading::done))]
+    #[inline(always)]
     pub(crate) fn u64(&mut self) -> Result<u64, ReadFault>
         ensures { Gives (λ n. n) result self.new (number_at 8 self.old) }
     {
@@ -107,6 +113,7 @@ impl<'a> Reader<'a> {
     }
 
     #[tactic(auto, unfolding(crate::specs::Reading::number_at, crate::specs::Reading::then_at, crate::specs::Reading::done))]
+    #[inline(always)]
     pub(crate) fn u128(&mut self) -> Result<u128, ReadFault>
         ensures { Gives (λ n. n) result self.new (number_at 16 self.old) }
     {
@@ -114,6 +121,7 @@ impl<'a> Reader<'a> {
     }
 
     #[tactic(auto, unfolding(crate::specs::Reading::signed_at, crate::specs::Reading::then_at, crate::specs::Reading::done))]
+    #[inline(always)]
     fn i64(&mut self) -> Result<i64, ReadFault>
         ensures { Gives (λ n. n) result self.new (signed_at w64 self.old) }
     {
@@ -167,6 +175,7 @@ impl<'a> Reader<'a> {
 
     // A signed number of sixteen bytes.
     #[tactic(auto, unfolding(crate::specs::Reading::signed_at, crate::specs::Reading::then_at, crate::specs::Reading::done))]
+    #[inline(always)]
     fn i128(&mut self) -> Result<i128, ReadFault>
         ensures { Gives (λ n. n) result self.new (signed_at w128 self.old) }
     {
@@ -175,6 +184,7 @@ impl<'a> Reader<'a> {
 
     // The numerator of a fraction.
     #[tactic(auto, unfolding(crate::specs::Reading::tested, crate::specs::BlocksReading::num_at))]
+    #[inline(always)]
     pub(crate) fn numerator(&mut self) -> Result<i128, ReadFault>
         ensures read { Gives (λ n. n) result self.new (num_at self.old) }
         ensures small { IfOk result (λ n. unsigned_abs n ≤ 10 ^ 38) }
@@ -250,6 +260,7 @@ impl<'a> Reader<'a> {
     }
 
     #[tactic(auto, unfolding(crate::specs::Reading::tested, crate::specs::IncomingReading::stamp_at))]
+    #[inline(always)]
     pub(crate) fn stamp(&mut self) -> Result<Stamp, ReadFault>
         ensures { Gives (λ stamp. stamp) result self.new
             (stamp_at self.old) }
@@ -260,6 +271,7 @@ impl<'a> Reader<'a> {
     }
 
     #[tactic(auto, unfolding(crate::specs::Reading::tested, crate::specs::IncomingReading::value_at))]
+    #[inline(always)]
     pub(crate) fn value(&mut self) -> Result<Value, ReadFault>
         ensures { Gives (λ value. value) result self.new
             (value_at self.old) }

@@ -1,6 +1,7 @@
 // Splits in blocks.
-ghost use Rattle.std.specs.Prelude.{◌≡◌, ◌≢◌, ◌<◌, ◌*◌, ◌^◌, ◌++◌, ℕ, All, IfOk, OnOk, None, Ok, Err};
+ghost use Rattle.std.specs.Prelude.{◌≡◌, ◌≢◌, ◌<◌, ◌*◌, ◌/◌, ◌%◌, ◌^◌, ◌++◌, ℕ, length, All, IfOk, OnOk, None, Ok, Err};
 ghost use Rattle.std.specs.List.{flat_map};
+ghost use Rattle.byteorder.specs.Endian.{big_bytes};
 ghost use Rattle.series_model.specs.declared.point.Split.{Split};
 ghost use Rattle.gno_codec.specs.Blocks.{position_of, point_bytes, split_bytes, IsPlaced, IsPointOf, IsFilled, IsSplit};
 ghost use Rattle.gno_codec.specs.Reading.{Answers, Gives, is_above, items_at, last_of};
@@ -8,7 +9,8 @@ ghost use Rattle.gno_codec.specs.BlocksReading.{bucket_time, time_after, fractio
 
 use crate::ReadFault;
 use crate::reading::Reader;
-use crate::writing::{put_u16, put_u64, put_u128};
+use crate::writing::put_u16;
+use byteorder::{BigEndian, ByteOrder};
 use gno_num::{Frac, GROUPS_PER_SPLIT, Memory, Span, Stamp};
 use series_model::{Point, Split};
 use std::alloc::Global;
@@ -41,30 +43,81 @@ fn put_points(
     ensures bytes { OnOk result (out.new.items ≡ out.old.items ++ flat_map (point_bytes granularity key) points.now) }
     ensures is { OnOk result (All (IsPointOf granularity key) points.now) }
 {
+    let mut next = 0;
     for point in points {
-        put_point(out, key, granularity, point)?;
+        next = put_point(out, key, granularity, point, next)?;
     }
     Ok(())
 }
 
-fn put_point(out: &mut Vec<u8>, key: Stamp, granularity: Span, point: &Point) -> Result<(), Memory>
+// The position behind the point's. `guess` is a position that is likely: where it is the point's,
+// there is nothing to divide.
+#[inline(always)]
+fn put_point(
+    out: &mut Vec<u8>,
+    key: Stamp,
+    granularity: Span,
+    point: &Point,
+    guess: u16,
+) -> Result<u16, Memory>
     requires { IsPlaced granularity key point.now }
     ensures bytes { OnOk result (out.new.items ≡ out.old.items ++ point_bytes granularity key point.now) }
     ensures is { OnOk result (IsPointOf granularity key point.now) }
 {
-    put_u16(out, position_of(key, granularity, point))?;
-    put_u128(out, point.value.num().cast_unsigned())?;
-    put_u64(out, point.value.den())?;
-    Ok(())
+    let position = position_of(key, granularity, point, guess);
+    let num = point.value.num().cast_unsigned();
+    let mut bytes = [0; POINT_BYTES];
+    fill(
+        &mut bytes,
+        position,
+        high_half(num),
+        low_half(num),
+        point.value.den(),
+    );
+    out.extend_from_slice(&bytes)?;
+    Ok(position + 1)
+}
+
+// A numerator goes by its halves: so it is turned round by two instructions.
+#[inline(always)]
+fn fill(bytes: &mut [u8], position: u16, high: u64, low: u64, den: u64)
+    requires { length bytes.old ≡ 26 }
+    ensures { bytes.new ≡ big_bytes 2 position ++ big_bytes 8 high ++ big_bytes 8 low ++ big_bytes 8 den }
+{
+    BigEndian::write_u16(bytes, position);
+    BigEndian::write_u64(&mut bytes[2..], high);
+    BigEndian::write_u64(&mut bytes[10..], low);
+    BigEndian::write_u64(&mut bytes[18..], den);
+}
+
+#[inline(always)]
+fn high_half(num: u128) -> u64
+    ensures { result ≡ num / 2 ^ 64 }
+{
+    (num >> 64) as u64
+}
+
+#[inline(always)]
+fn low_half(num: u128) -> u64
+    ensures { result ≡ num % 2 ^ 64 }
+{
+    (num % (1 << 64)) as u64
 }
 
 // The number of the point's bucket within its split.
-fn position_of(key: Stamp, granularity: Span, point: &Point) -> u16
+#[inline(always)]
+fn position_of(key: Stamp, granularity: Span, point: &Point, guess: u16) -> u16
     requires { IsPlaced granularity key point.now }
     ensures value { result ≡ position_of granularity key point.now }
+    ensures within { result < 3600 }
     ensures time { point.now.at < 9 * 10 ^ 18 }
 {
-    ((point.at.nanos() - key.nanos()) / granularity.nanos()) as u16
+    let nanos = point.at.nanos() - key.nanos();
+    if u64::from(guess).saturating_mul(granularity.nanos()) == nanos {
+        guess
+    } else {
+        (nanos / granularity.nanos()) as u16
+    }
 }
 
 // ---- read
@@ -141,6 +194,7 @@ fn read_so_many_points(
 }
 
 #[tactic(auto, unfolding(crate::specs::BlocksReading::point_after, crate::specs::Reading::then_at, crate::specs::Reading::done))]
+#[inline(always)]
 fn read_point(
     before: &[Point],
     key: Stamp,
@@ -156,6 +210,7 @@ fn read_point(
 }
 
 #[tactic(auto, unfolding(crate::specs::BlocksReading::time_after, crate::specs::Reading::standing_for))]
+#[inline(always)]
 fn read_time(
     before: &[Point],
     key: Stamp,
@@ -171,6 +226,7 @@ fn read_time(
 }
 
 // When the bucket at a position begins, where it may stand behind the points before it.
+#[inline(always)]
 fn bucket_time(key: Stamp, granularity: u64, before: &[Point], position: u16) -> Option<Stamp>
     ensures { result ≡ bucket_time granularity key (last_of before.now) position }
 {
@@ -190,6 +246,7 @@ fn bucket_time(key: Stamp, granularity: u64, before: &[Point], position: u16) ->
 }
 
 // Whether a time is above that of the point before.
+#[inline(always)]
 fn is_later(before: &[Point], nanos: u64) -> bool
     ensures { result ≡ is_above (λ point. point.at) (last_of before.now) nanos }
 {
@@ -200,6 +257,7 @@ fn is_later(before: &[Point], nanos: u64) -> bool
 }
 
 #[tactic(auto, unfolding(crate::specs::BlocksReading::fraction_at, crate::specs::Reading::then_at, crate::specs::Reading::done, crate::specs::Reading::tested))]
+#[inline(always)]
 fn read_fraction(reader: &mut Reader<'_>) -> Result<Frac, ReadFault>
     ensures { Gives (λ value. value) result reader.new (fraction_at reader.old) }
 {

@@ -5,6 +5,7 @@ ghost use Rattle.byteorder.specs.Endian.{big_bytes};
 use byteorder::{BigEndian, ByteOrder};
 use gno_num::Memory;
 
+#[inline(always)]
 pub(crate) fn put_u8(out: &mut Vec<u8>, number: u8) -> Result<(), Memory>
     ensures ok { OnOk result (out.new.items ≡ out.old.items ++ big_bytes 1 number) }
     ensures err { OnErr result (out.new.items ≡ out.old.items) }
@@ -13,6 +14,7 @@ pub(crate) fn put_u8(out: &mut Vec<u8>, number: u8) -> Result<(), Memory>
     Ok(())
 }
 
+#[inline(always)]
 pub(crate) fn put_u16(out: &mut Vec<u8>, number: u16) -> Result<(), Memory>
     ensures ok { OnOk result (out.new.items ≡ out.old.items ++ big_bytes 2 number) }
     ensures err { OnErr result (out.new.items ≡ out.old.items) }
@@ -23,6 +25,7 @@ pub(crate) fn put_u16(out: &mut Vec<u8>, number: u16) -> Result<(), Memory>
     Ok(())
 }
 
+#[inline(always)]
 pub(crate) fn put_u32(out: &mut Vec<u8>, number: u32) -> Result<(), Memory>
     ensures ok { OnOk result (out.new.items ≡ out.old.items ++ big_bytes 4 number) }
     ensures err { OnErr result (out.new.items ≡ out.old.items) }
@@ -33,6 +36,7 @@ pub(crate) fn put_u32(out: &mut Vec<u8>, number: u32) -> Result<(), Memory>
     Ok(())
 }
 
+#[inline(always)]
 pub(crate) fn put_u64(out: &mut Vec<u8>, number: u64) -> Result<(), Memory>
     ensures ok { OnOk result (out.new.items ≡ out.old.items ++ big_bytes 8 number) }
     ensures err { OnErr result (out.new.items ≡ out.old.items) }
@@ -43,6 +47,7 @@ pub(crate) fn put_u64(out: &mut Vec<u8>, number: u64) -> Result<(), Memory>
     Ok(())
 }
 
+#[inline(always)]
 pub(crate) fn put_u128(out: &mut Vec<u8>, number: u128) -> Result<(), Memory>
     ensures ok { OnOk result (out.new.items ≡ out.old.items ++ big_bytes 16 number) }
     ensures err { OnErr result (out.new.items ≡ out.old.items) }

@@ -14,7 +14,7 @@ loop-point-preserved c =
     let points = c.args.points.now in
     let i = c.loop-point.point-index in
     let p = c.point-item.result in
-    let put = c.in_ok-put_point.ensures in
+    let put = c.in_ok-next.ensures in
     let lt = c.loop-point-test.true in
     let Is = IsPointOf c.args.granularity c.args.key in
     (one_more_item (point_bytes c.args.granularity c.args.key) _ _ _ points i p lt c.point-item.is c.loop-point.invariant.0 put.bytes, All-more Is points i p lt c.loop-point.invariant.1 (subst Is c.point-item.is put.is))
