@@ -68,6 +68,7 @@ while [ "$pass" -lt "$passes" ] && [ $(($(date +%s) - started)) -lt 120 ]; do
         measure stamps $((10000 / tenth)) 15
         measure print $((10080 / tenth)) 9
         measure json $((10000 / tenth)) 9
+        measure codec $((36000 / tenth)) 15
         measure policies $((4000 / tenth)) 3
         measure aggregate $((10000 / tenth)) 9
         measure log $((40960 / tenth)) 5

@@ -764,6 +764,107 @@ static void log_in_memory(u64 size) {
     tell("log_append", count + 64, bytes + grown, 64, grown, middle(appended));
 }
 
+struct BlockPoint {
+    u64 at;
+    i128 num;
+    u64 den;
+};
+
+static u64 big_at(const char *at, int bytes) {
+    u64 number = 0;
+    for (int i = 0; i < bytes; i++)
+        number = number << 8 | (unsigned char)at[i];
+    return number;
+}
+
+static void big_onto(u64 number, int bytes, char *out) {
+    for (int i = bytes - 1; i >= 0; i--, number >>= 8)
+        out[i] = (char)number;
+}
+
+// The points of a block: 1 to 3,600, positions rising, numbers in their ranges.
+static bool read_split(const string &block, u64 key, vector<BlockPoint> &points) {
+    if (block.size() < 2)
+        return false;
+    u64 count = big_at(&block[0], 2);
+    if (count < 1 || count > 3600 || block.size() != 2 + 26 * count)
+        return false;
+    i128 most = 1;
+    for (int i = 0; i < 38; i++)
+        most *= 10;
+    points.reserve(count);
+    i64 last = -1;
+    for (u64 i = 0; i < count; i++) {
+        const char *at = &block[2 + 26 * i];
+        i64 position = (i64)big_at(at, 2);
+        i128 num = (i128)((unsigned __int128)big_at(at + 2, 8) << 64 | big_at(at + 10, 8));
+        u64 den = big_at(at + 18, 8);
+        u64 time = key + (u64)position * 60000000000u;
+        if (position <= last || position >= 3600 || num > most || num < -most || den < 1 ||
+            time >= 9000000000000000000u)
+            return false;
+        points.push_back({time, num, den});
+        last = position;
+    }
+    return true;
+}
+
+static void write_split(const vector<BlockPoint> &points, u64 key, string &block) {
+    block.resize(2 + 26 * points.size());
+    big_onto(points.size(), 2, &block[0]);
+    for (size_t i = 0; i < points.size(); i++) {
+        char *at = &block[2 + 26 * i];
+        big_onto((points[i].at - key) / 60000000000u, 2, at);
+        big_onto((u64)(points[i].num >> 64), 8, at + 2);
+        big_onto((u64)points[i].num, 8, at + 10);
+        big_onto(points[i].den, 8, at + 18);
+    }
+}
+
+static void codec(u64 size) {
+    const u64 stretch = 3600 * 60000000000u;
+    Draws draws{6};
+    vector<string> blocks;
+    for (u64 left = size; left > 0;) {
+        u64 count = std::min<u64>(left, 3600);
+        vector<BlockPoint> points;
+        for (u64 i = 0; i < count; i++) {
+            u64 sum = draws.next();
+            points.push_back({i * 60000000000u, (i128)sum * 1000, 1 + draws.next() % 12});
+        }
+        string block;
+        write_split(points, 0, block);
+        blocks.push_back(block);
+        left -= count;
+    }
+    vector<vector<BlockPoint>> splits;
+    u64 read = timed([&] {
+        splits.assign(blocks.size(), {});
+        for (size_t i = 0; i < blocks.size(); i++)
+            if (!read_split(blocks[i], i * stretch, splits[i]))
+                exit(1);
+    });
+    vector<string> written;
+    u64 wrote = timed([&] {
+        written.assign(splits.size(), {});
+        for (size_t i = 0; i < splits.size(); i++)
+            write_split(splits[i], i * stretch, written[i]);
+    });
+    if (written != blocks)
+        exit(1);
+    u64 count = 0, sum = 0, bytes = 0, told = 0;
+    for (const auto &split : splits)
+        for (const BlockPoint &point : split)
+            count++, sum += point.at + (u64)point.num;
+    for (const string &block : written) {
+        bytes += block.size();
+        for (unsigned char byte : block)
+            told += byte;
+    }
+    tell("read_split", count, sum, size, bytes, read);
+    tell("write_split", bytes, told, size, bytes, wrote);
+}
+
 int main(int argc, char **argv) {
     if (argc < 4)
         return 2;
@@ -788,6 +889,8 @@ int main(int argc, char **argv) {
         aggregate(size);
     else if (part == "json")
         json(size);
+    else if (part == "codec")
+        codec(size);
     else
         return 2;
 }

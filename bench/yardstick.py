@@ -91,6 +91,25 @@ def bodies(size, rounds):
         timed("read_measures", "orjson.loads", rounds, lambda: orjson.loads(body))
 
 
+def codec(size, rounds):
+    row = draws(6)
+    blocks = []
+    for first in range(0, size, 3600):
+        count = min(3600, size - first)
+        points = b"".join(struct.pack(">HQQQ", i, 0, next(row) * 1000, 1 + next(row) % 12)
+                          for i in range(count))
+        blocks.append(struct.pack(">H", count) + points)
+
+    def read():
+        return [list(struct.iter_unpack(">HQQQ", block[2:])) for block in blocks]
+
+    splits = read()
+    timed("read_split", "struct", rounds, read)
+    timed("write_split", "struct", rounds,
+          lambda: [struct.pack(">H", len(s)) + b"".join([struct.pack(">HQQQ", *p) for p in s])
+                   for s in splits])
+
+
 def policies(size, rounds):
     row = draws(5)
     patterns = []
@@ -118,7 +137,7 @@ def log(size, rounds, folder):
 
 
 PARTS = {"values": values, "stamps": stamps, "print": print_rows, "json": bodies,
-         "policies": policies}
+         "codec": codec, "policies": policies}
 
 part, size, rounds = sys.argv[1], int(sys.argv[2]), int(sys.argv[3])
 if part == "log":

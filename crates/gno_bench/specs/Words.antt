@@ -5,7 +5,7 @@ use Rattle.std.specs.declared.string.String.{String}
 use Rattle.std.specs.declared.alloc.Global.{Global}
 use Rattle.gno_num.specs.Digits.{number_onto}
 use Rattle.gno_bench.specs.declared.words.Part.{Part}
-use Rattle.gno_bench.specs.declared.words.Part.TheVariants.{Values, Stamps, Print, Policies, Log, Aggregate, Json, All}
+use Rattle.gno_bench.specs.declared.words.Part.TheVariants.{Values, Stamps, Print, Policies, Log, Aggregate, Json, Codec, All}
 use Rattle.gno_bench.specs.declared.words.Job.{Job}
 
 -- the bytes of the words
@@ -22,6 +22,7 @@ part_of word =
     else if bytes_eq word (codes "log") then Some Log
     else if bytes_eq word (codes "aggregate") then Some Aggregate
     else if bytes_eq word (codes "json") then Some Json
+    else if bytes_eq word (codes "codec") then Some Codec
     else if bytes_eq word (codes "all") then Some All
     else None
 

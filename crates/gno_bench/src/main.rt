@@ -5,6 +5,7 @@
 ghost use Rattle.std.specs.Prelude.{◌≡◌, ◌≤◌, true, length};
 
 mod batches;
+mod blocks;
 mod bodies;
 mod draw;
 mod line;
@@ -25,7 +26,7 @@ use crate::words::{Job, Part, job_of};
 use std::process::ExitCode;
 use std::{env, io};
 
-/// Measures a part. One for the codec of points takes its place here once there are splits to code.
+/// Measures a part.
 fn measure(rt: &HostRuntime, job: Job, words: &[String]) -> Result<Vec<Line>, Stop>
     requires size { job.size ≤ 50000 }
     requires folder { job.in_folder ≡ true → length words.now ≡ 4 }
@@ -39,6 +40,7 @@ fn measure(rt: &HostRuntime, job: Job, words: &[String]) -> Result<Vec<Line>, St
         Part::Log => records::run_in_memory(rt, job.size, job.rounds),
         Part::Aggregate => series::run(rt, job.size, job.rounds),
         Part::Json => bodies::run(rt, job.size, job.rounds),
+        Part::Codec => blocks::run(rt, job.size, job.rounds),
         Part::All => measure_all(rt, job.size, job.rounds),
     }
 }
@@ -55,6 +57,7 @@ fn measure_all(rt: &HostRuntime, size: u64, rounds: u64) -> Result<Vec<Line>, St
         series::run(rt, size, rounds)?,
         bodies::run(rt, size, rounds)?,
         records::run_in_memory(rt, size, rounds)?,
+        blocks::run(rt, size, rounds)?,
     ];
     for more in &runs {
         lines.extend_from_slice(more.as_slice())?;

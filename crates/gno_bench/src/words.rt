@@ -22,6 +22,8 @@ pub enum Part {
     Aggregate,
     /// Bodies of measures are read.
     Json,
+    /// Splits are read from blocks and written to them.
+    Codec,
     /// All of these, the log in memory.
     All,
 }
@@ -119,6 +121,9 @@ fn part_of(word: &String) -> Option<Part>
     }
     if is(word, "json") {
         return Some(Part::Json);
+    }
+    if is(word, "codec") {
+        return Some(Part::Codec);
     }
     if is(word, "all") {
         return Some(Part::All);
