@@ -124,17 +124,21 @@ static void print_number(u64 number, string &out) {
     out.append(digits + i, 20 - i);
 }
 
-static void print_magnitude(bool negative, u64 units, string &out) {
-    if (negative)
-        out += '-';
-    print_number(units / 1000000, out);
-    out += '.';
-    u64 rest = units % 1000000, unit = 100000;
+// The digits of a rest from this one on, without the zeros at the end, but at least one.
+static void print_fraction(u64 rest, u64 unit, string &out) {
     do {
         out += '0' + rest / unit;
         rest %= unit;
         unit /= 10;
     } while (rest);
+}
+
+static void print_magnitude(bool negative, u64 units, string &out) {
+    if (negative)
+        out += '-';
+    print_number(units / 1000000, out);
+    out += '.';
+    print_fraction(units % 1000000, 100000, out);
 }
 
 static void print_units(i64 units, string &out) {
@@ -310,12 +314,7 @@ struct Row {
 static void print_span(u64 nanos, string &out) {
     print_number(nanos / 1000000000, out);
     out += '.';
-    u64 rest = nanos % 1000000000, unit = 100000000;
-    do {
-        out += '0' + rest / unit;
-        rest %= unit;
-        unit /= 10;
-    } while (rest);
+    print_fraction(nanos % 1000000000, 100000000, out);
 }
 
 static void print_rows(const vector<Row> &rows, string &out) {
