@@ -1,5 +1,5 @@
 -- What the calls of a log do, where the disk tells its bytes and where it doesn't.
-use Rattle.std.proofs.Common.{false, ◌≡◌, ◌⊎◌, inl, inr, ℕ, ◌+◌, ◌<◌, ◌≤◌, ◌^◌, List, [], ◌∷◌, ◌++◌, length, take, drop, get_or, slice_get, Option, Some, None, IfSome, refl, sym, ap, subst, ◌∙◌, arith, take-append-drop}
+use Rattle.std.proofs.Common.{false, ◌≡◌, inl, ℕ, ◌+◌, ◌<◌, ◌≤◌, ◌^◌, List, [], ◌∷◌, ◌++◌, length, take, drop, get_or, slice_get, Option, Some, None, IfSome, refl, sym, ap, subst, ◌∙◌, arith, take-append-drop}
 use Rattle.std.specs.Prelude.{option_map}
 use Rattle.std.proofs.lemmas.Option.{slice_get-map, slice_get-get_or}
 use Rattle.byteorder.specs.Endian.{big_bytes}
@@ -14,7 +14,7 @@ use Rattle.gate_log.specs.declared.place.Place.{Place}
 use Rattle.gno_disk.specs.declared.disk.Disk.{Ghosts}
 use Rattle.gate_log.proofs.Exact.{Holds-one}
 use Rattle.gate_log.proofs.Moments.{told_onto, told_weaker}
-use Rattle.gate_log.proofs.PlaceLemmas.{Spans-push, AreWritten-same, bodies_at-same, Holds-from_written, part_holds, new_holds, new_bodies, new_written, new_closed}
+use Rattle.gate_log.proofs.PlaceLemmas.{Spans-push, AreWritten-same, bodies_at-same, Holds-from_written, part_holds, new_bodies, new_written, new_closed}
 
 module _ (places : List Place) (end : ℕ) (spans : Spans places 0 end) where
   -- the records stay written where the bytes before the end stay

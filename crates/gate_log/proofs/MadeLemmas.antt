@@ -1,5 +1,5 @@
 -- A log that was made of records at once.
-use Rattle.std.proofs.Common.{◌≡◌, ◌≢◌, ◌⊎◌, inl, inr, ℕ, suc, ◌+◌, ◌*◌, ◌<◌, ◌≤◌, List, [], ◌∷◌, ◌++◌, length, map, take, drop, get_or, slice_index, Option, Some, None, IfSome, refl, sym, ap, subst, ◌∙◌, arith, append_assoc, length-append, take-append-drop, vec_capacity, vec_len}
+use Rattle.std.proofs.Common.{◌≡◌, ◌⊎◌, inl, inr, ℕ, suc, ◌+◌, ◌*◌, ◌<◌, ◌≤◌, List, [], ◌∷◌, ◌++◌, length, take, drop, get_or, slice_index, Option, Some, None, IfSome, refl, sym, ap, subst, ◌∙◌, arith, append_assoc, length-append, take-append-drop, vec_capacity}
 use Rattle.std.specs.Prelude.{option_map, Vec}
 use Rattle.std.specs.declared.alloc.Global.{Global}
 use Rattle.std.proofs.lemmas.List.{take_at, drop_at, drop_all, get_or_at, take_more, map_push, map-append, length-map, flat_map_more}
@@ -7,11 +7,11 @@ use Rattle.std.proofs.lemmas.Grind.{flat_map-append}
 use Rattle.std.proofs.lemmas.Bool.{cases_lt}
 use Rattle.byteorder.specs.Endian.{big_bytes}
 use Rattle.byteorder.specs.Numbers.{length-bytes_high_first}
-use Rattle.gno_disk.specs.Disk.{Overwrites, Told}
+use Rattle.gno_disk.specs.Disk.{Told}
 use Rattle.gate_log.specs.LogView.{IsOldOrMade}
-use Rattle.gate_log.specs.Records.{Holds, log_bytes, record_bytes, bodies_of, total_length}
+use Rattle.gate_log.specs.Records.{log_bytes, record_bytes, bodies_of, total_length}
 use Rattle.gate_log.specs.Steps.{OldOrNoneOr, StandsFirst}
-use Rattle.gate_log.specs.Places.{body_at, bodies_at, places_of, Spans, AreWritten, IsClosed}
+use Rattle.gate_log.specs.Places.{bodies_at, places_of, Spans, AreWritten, IsClosed}
 use Rattle.gate_log.specs.declared.place.Place.{Place}
 use Rattle.gate_log.proofs.Exact.{record_long}
 

@@ -1,7 +1,6 @@
 -- What the device calls of a log may leave.
-use Rattle.std.proofs.Common.{◌≡◌, ℕ, ◌≤◌, List, Option, Some, None, Result, Ok, Err, OnOk, IfSome, inl, inr, refl, sym, subst, ◌∙◌}
+use Rattle.std.proofs.Common.{◌≡◌, ℕ, List, Option, Some, None, Result, Ok, Err, OnOk, IfSome, inl, inr, refl, sym, subst, ◌∙◌}
 use Rattle.gno_disk.specs.Disk.{Told, Follows, NoMore, Elapses}
-use Rattle.gno_disk.specs.Moments.{LeavesOnly}
 use Rattle.gno_disk.proofs.Moments.{LeavesOnly-start, LeavesOnly-call, LeavesOnly-then, LeavesOnly-weaker}
 use Rattle.gno_disk.specs.declared.disk.Disk.{Ghosts}
 use Rattle.gate_log.specs.Steps.{IsSynced, Leaves, IsUntouched, IsRemade, IsRemadeOrStill}

@@ -1,6 +1,7 @@
 -- What the places of a log say of its bytes.
 use Rattle.std.proofs.Common.{◌≡◌, ℕ, zero, suc, ◌+◌, ◌<◌, ◌≤◌, List, [], ◌∷◌, ◌++◌, length, get_or, take, drop, slice_index, refl, sym, ap, ◌∙◌, arith, append_assoc, length-append, take-append-drop, ◌≢◌, ◌⊎◌, inl, inr, subst}
-use Rattle.std.proofs.lemmas.List.{take-take, drop-take, take_at, drop_at, map_push, flat_map_more, length-take-le, get_or_at, drop_more, take_more}
+use Rattle.std.proofs.lemmas.List.{take-take, drop-take, take_at, drop_at, map_push, flat_map_more, length-take-le, length-drop, get_or_at, drop_more, take_more}
+use Rattle.std.specs.Prelude.{◌-◌, Option, Some, None, IfSome, option_map}
 use Rattle.std.proofs.lemmas.Bool.{cases_eq}
 use Rattle.gate_log.specs.Steps.{KeepsBefore, PartOf}
 use Rattle.byteorder.specs.Endian.{big_bytes}
@@ -28,6 +29,33 @@ Spans-get_or (place ∷ places) from to (suc i) d spans h = Spans-get_or places 
 pub Spans-push : (places : List Place) (from to : ℕ) (place : Place) → Spans places from to → place.at ≡ to + 9 → Spans (places ++ place ∷ []) from (place.at + place.len)
 Spans-push [] from to place spans at = let e : from ≡ to = spans in (at ∙ ap (λ n. n + 9) (sym e), refl)
 Spans-push (first ∷ places) from to place spans at = (spans.0, Spans-push places (first.at + first.len) to place spans.1 at)
+
+-- each body has its gate and its length before it
+pub Spans-above : (places : List Place) (from to i : ℕ) (d : Place) → Spans places from to → i < length places → from + 9 ≤ (get_or places i d).at
+Spans-above [] from to i d spans h = absurd (omega arith)
+Spans-above (place ∷ places) from to zero d spans h = omega (arith, spans.0)
+Spans-above (place ∷ places) from to (suc i) d spans h =
+    let rest = Spans-above places (place.at + place.len) to i d spans.1 (omega arith) in
+    omega (arith, spans.0, rest)
+
+-- the records before one take the bytes up to its gate
+pub gate_of : (places : List Place) (from to i : ℕ) (d : Place) (bytes : List ℕ) → Spans places from to → to ≤ length bytes → i < length places
+    → length (log_bytes (take i (bodies_at places bytes))) + from + 9 ≡ (get_or places i d).at
+gate_of [] from to i d bytes spans le h = absurd (omega arith)
+gate_of (place ∷ places) from to zero d bytes spans le h = omega (arith, spans.0)
+gate_of (place ∷ places) from to (suc i) d bytes spans le h =
+    let behind : place.at + place.len ≤ to = Spans-le places (place.at + place.len) to spans.1 in
+    let long : length (body_at bytes place) ≡ place.len = length-take-le place.len (drop place.at bytes) (omega (arith, length-drop place.at bytes, behind, le)) in
+    let rest = gate_of places (place.at + place.len) to i d bytes spans.1 le (omega arith) in
+    let front : length (record_bytes (body_at bytes place)) ≡ 9 + length (body_at bytes place) = omega (arith, length-append (big_bytes 8 (length (body_at bytes place))) (body_at bytes place), length-bytes_high_first 8 (length (body_at bytes place))) in
+    let all = length-append (record_bytes (body_at bytes place)) (log_bytes (take i (bodies_at places bytes))) in
+    omega (arith, spans.0, long, rest, front, all)
+
+-- the same of a disk that may tell its bytes
+pub told_gate : (places : List Place) (to size i : ℕ) (d : Place) (told : Option (List ℕ)) → Spans places 0 to → IfSome told (λ bytes. length bytes ≡ size) → to < size → i < length places
+    → IfSome (option_map (bodies_at places) told) (λ records. (get_or places i d).at - 9 ≡ length (log_bytes (take i records)))
+told_gate places to size i d None spans whole lt h = tt
+told_gate places to size i d (Some bytes) spans whole lt h = omega (arith, gate_of places 0 to i d bytes spans (omega (arith, whole, lt)) h)
 
 body_at-take : (bytes : List ℕ) (place : Place) → body_at bytes place ≡ drop place.at (take (place.at + place.len) bytes)
 body_at-take bytes place = sym (drop-take place.at place.len bytes)

@@ -1,5 +1,5 @@
 -- How a log keeps what contracts see of it.
-use Rattle.std.specs.Prelude.{◌≡◌, ℕ, ◌+◌, ◌*◌, ◌<◌, ◌≤◌, ◌^◌, false, length, List, Option, IfSome, vec_len, vec_capacity, option_map}
+use Rattle.std.specs.Prelude.{◌≡◌, ◌+◌, ◌*◌, ◌<◌, ◌≤◌, ◌^◌, false, length, IfSome, vec_len, vec_capacity, option_map}
 use Rattle.gno_disk.specs.declared.disk.Disk.{Ghosts}
 use Rattle.gate_log.specs.LogView.{LogView}
 use Rattle.gate_log.specs.Steps.{IsSynced}

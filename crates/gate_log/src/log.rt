@@ -1,8 +1,8 @@
 // A log of records on one disk.
-ghost use Rattle.std.specs.Prelude.{ℕ, List, Bool, ⊤, true, false, [], ◌∷◌, ◌≡◌, ◌⊎◌, ◌+◌, ◌<◌, ◌≤◌, length, slice_get, Some, is_some, IfSome, IfOk, IfErr, OnOk, OnErr, IsErrOf};
+ghost use Rattle.std.specs.Prelude.{ℕ, List, Bool, ⊤, true, false, [], ◌∷◌, ◌≡◌, ◌⊎◌, ◌+◌, ◌<◌, ◌≤◌, length, take, slice_get, Some, is_some, IfSome, IfOk, IfErr, OnOk, OnErr, IsErrOf};
 ghost use Rattle.gno_disk.specs.Disk.{SameImages};
 ghost use Rattle.gno_disk.specs.Moments.{LeavesOnly};
-ghost use Rattle.gate_log.specs.Records.{Begins, Holds, HoldsNoList, IsDamaged, bodies_of, total_length};
+ghost use Rattle.gate_log.specs.Records.{Begins, Holds, HoldsNoList, IsDamaged, bodies_of, log_bytes, total_length};
 ghost use Rattle.gate_log.specs.Steps.{IsRemade, IsRemadeOrStill, IsUntouched};
 
 use crate::device::{read_body, start, write_record};
@@ -403,6 +403,15 @@ impl<D: Disk> Log<D> {
         ensures told { IfSome self.now.records (λ records. length records ≡ result) }
     {
         self.places.len() as u64
+    }
+
+    /// The place of the gate of the record with this index.
+    pub fn place_of(&self, index: u64) -> u64
+        requires known { index < self.now.count }
+        requires whole { self.now.broken ≡ false }
+        ensures place { IfSome self.now.records (λ records. result ≡ length (log_bytes (take index records))) }
+    {
+        self.places[index as usize].at - HEAD
     }
 
     /// Whether a call has failed, so that the log is to be mounted again.

@@ -1,5 +1,5 @@
 -- Which log counts, by the headers that were found.
-use Rattle.std.proofs.Common.{◌≡◌, ◌⊎◌, ℕ, ◌<◌, ◌≤◌, ◌^◌, Bool, true, false, ltb, [], ◌∷◌, ◌++◌, drop, length, slice_index, ⊎_elim, List, Option, Some, None, inl, inr, refl, sym, ap, subst, ◌∙◌, arith}
+use Rattle.std.proofs.Common.{◌≡◌, ◌⊎◌, ℕ, ◌≤◌, ◌^◌, Bool, true, false, ltb, [], ◌∷◌, ◌++◌, drop, length, slice_index, ⊎_elim, List, Option, Some, None, refl, sym, ap, subst, ◌∙◌, arith}
 use Rattle.std.specs.Option.{IfSome}
 use Rattle.std.proofs.lemmas.Bool.{ltb-true, ltb-false}
 use Rattle.std.proofs.lemmas.Option.{same_Some, none-some}
@@ -153,7 +153,7 @@ other_choice_never first second h place a b is why found_a found_b epoch records
 -- ---- what the told bytes of two disks are
 
 module _ (place : Place) (n : ℕ) where
-  counted : (s : Bool) (ta tb : Option (List ℕ)) → IfSome (one_of s ta tb) (HasHeader place n) → IfSome (other_of s ta tb) (IsOlder s n) → TwoTold ta tb (Counts s place n)
+  pub counted : (s : Bool) (ta tb : Option (List ℕ)) → IfSome (one_of s ta tb) (HasHeader place n) → IfSome (other_of s ta tb) (IsOlder s n) → TwoTold ta tb (Counts s place n)
   counted s None tb has older = tt
   counted s (Some x) None has older = tt
   counted false (Some x) (Some y) has older = record { header = has; older = older }

@@ -1,11 +1,11 @@
 -- Making a pair: the second disk is made ready, and then a log is made on the first.
-use Rattle.std.proofs.Common.{◌≡◌, ◌⊎◌, ℕ, ◌+◌, ◌≤◌, ◌<◌, ◌^◌, Bool, true, false, List, [], ◌∷◌, ◌++◌, length, Option, Some, None, inl, inr, ⊎_elim, refl, sym, ap, subst, ◌∙◌, arith}
+use Rattle.std.proofs.Common.{◌≡◌, ◌⊎◌, ℕ, ◌+◌, ◌≤◌, Bool, true, false, List, [], ◌∷◌, ◌++◌, length, Option, Some, None, inl, inr, sym, subst, arith}
 use Rattle.std.specs.Option.{IfSome, IsSome}
 use Rattle.gno_disk.specs.Disk.{Told}
 use Rattle.gno_disk.specs.Moments.{LeavesOnly}
 use Rattle.gno_disk.specs.Phases.{EachMoment, phase}
 use Rattle.gno_disk.specs.declared.disk.Disk.{Ghosts}
-use Rattle.gno_disk.proofs.Moments.{LeavesOnly-start, LeavesOnly-then, LeavesOnly-weaker, leaves_now}
+use Rattle.gno_disk.proofs.Moments.{LeavesOnly-then, LeavesOnly-weaker, leaves_now}
 use Rattle.gno_disk.proofs.PhaseLemmas.{EachMoment-two}
 use Rattle.gate_log.specs.LogView.{IsOldOrMade}
 use Rattle.gate_log.specs.Records.{HasNoLog, Holds, total_length}
@@ -13,7 +13,7 @@ use Rattle.gate_log.specs.Steps.{IsReady, IsRemade, IsRemadeOrStill, OldOrNone}
 use Rattle.gate_log.proofs.Bytes.{no_log-short}
 use Rattle.log_pair.specs.declared.place.Place.{Place}
 use Rattle.log_pair.specs.Header.{FitsHeader, log_header}
-use Rattle.log_pair.specs.Pair.{HoldsPair, IsOlder}
+use Rattle.log_pair.specs.Pair.{IsOlder}
 use Rattle.log_pair.specs.PairView.{AreNoneOrMade, LeavesNoLog, OfTwo}
 
 -- one body more

@@ -1,11 +1,12 @@
 -- What a log that was mounted has behind its header.
-use Rattle.std.proofs.Common.{◌≡◌, ℕ, ◌≤◌, ◌^◌, Bool, true, false, List, [], ◌∷◌, length, drop, Option, Some, None, refl, sym, ap, subst, ◌∙◌, arith}
+use Rattle.std.proofs.Common.{◌≡◌, ℕ, ◌≤◌, ◌^◌, List, ◌∷◌, length, take, drop, suc, Option, Some, None, sym, ap, subst, ◌∙◌, arith}
 use Rattle.std.specs.Option.{IfSome, is_some}
-use Rattle.gate_log.specs.Records.{Holds}
+use Rattle.gate_log.specs.Records.{Holds, log_bytes}
 use Rattle.log_pair.specs.declared.place.Place.{Place}
 use Rattle.log_pair.specs.Choice.{TwoTold}
 use Rattle.log_pair.specs.Header.{HasHeader, log_header}
 use Rattle.log_pair.specs.Inside.{BeginsWithHeader, behind_header}
+use Rattle.log_pair.specs.Pair.{place_behind}
 use Rattle.log_pair.proofs.Headers.{begins_with_header}
 
 module _ (place : Place) (epoch : ℕ) where
@@ -34,6 +35,16 @@ module _ (place : Place) (epoch : ℕ) where
   mounted_exact None other records exact = tt
   mounted_exact (Some x) None records exact = tt
   mounted_exact (Some x) (Some y) records exact = λ rs held. ap (behind_header (Some y)) (exact (log_header place epoch ∷ rs) held)
+
+-- where a record stands, by its place in the log
+pub placed_behind : (place : Place) (epoch : ℕ) (other : Option (List ℕ)) (records : Option (List (List ℕ))) (index at : ℕ) → IfSome records (BeginsWithHeader place epoch) → IfSome records (λ rs. at ≡ length (log_bytes (take (suc index) rs)))
+    → IfSome (behind_header other records) (λ rs. at ≡ place_behind place epoch (take index rs))
+placed_behind place epoch None records index at begins is = tt
+placed_behind place epoch (Some x) None index at begins is = tt
+placed_behind place epoch (Some x) (Some records) index at begins is =
+    let are = begins.records_are in
+    subst (λ (rs : List (List ℕ)). at ≡ length (log_bytes (log_header place epoch ∷ take index (drop 1 rs)))) (sym are)
+    (subst (λ (rs : List (List ℕ)). at ≡ length (log_bytes (take (suc index) rs))) are is)
 
 -- a disk's length bounds the bytes that it tells
 pub told_short : (told : Option (List ℕ)) (size : ℕ) → IfSome told (λ x. length x ≡ size) → size ≤ 2 ^ 60 → IfSome told (λ x. length x ≤ 2 ^ 60)

@@ -1,7 +1,6 @@
 -- A mounting of two disks: first the headers are found, then the log that counts.
-use Rattle.std.proofs.Common.{◌≡◌, ℕ, ◌+◌, ◌≤◌, ◌^◌, min, Bool, true, false, List, Option, Some, None, Result, Ok, Err, refl, sym, ap, subst, ◌∙◌, arith}
+use Rattle.std.proofs.Common.{◌≡◌, ℕ, ◌+◌, ◌≤◌, Result, Ok, Err, sym, subst, arith}
 use Rattle.std.specs.Bool.{⊤}
-use Rattle.std.specs.Option.{IfSome}
 use Rattle.std.specs.Result.{IfOk, IfErr}
 use Rattle.gno_num.specs.Faults.{Rose}
 use Rattle.gno_num.specs.declared.faults.DiskFault.{DiskFault as Fault}
@@ -10,7 +9,6 @@ use Rattle.gno_disk.specs.declared.disk.Disk.{Ghosts}
 use Rattle.gate_log.specs.LogView.{IsFault, MatchMountFault}
 use Rattle.gate_log.specs.declared.fault.MountFault.{MountFault}
 use Rattle.gate_log.specs.declared.fault.MountFault.TheVariants.{DiskFault as MountDisk, Damaged as MountDamaged, Memory as MountMemory}
-use Rattle.log_pair.specs.Pair.{one_of, other_of}
 use Rattle.log_pair.specs.PairView.{both_faults}
 
 -- facts of an Ok, and of an Err, have another

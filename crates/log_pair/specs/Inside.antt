@@ -1,7 +1,6 @@
 -- How a pair keeps what contracts see of it.
 use Rattle.std.specs.Prelude.{◌≡◌, ℕ, ◌-◌, ◌≤◌, List, ◌∷◌, drop, Option, None, Some, IfSome, option_map}
 use Rattle.gno_disk.specs.declared.disk.Disk.{Ghosts}
-use Rattle.gate_log.specs.LogView.{LogView}
 use Rattle.log_pair.specs.declared.place.Place.{Place}
 use Rattle.log_pair.specs.declared.pair.LogPair.TheInside.{Inside}
 use Rattle.log_pair.specs.Header.{FitsHeader, IsEpoch, log_header}
@@ -18,6 +17,7 @@ abbrev pub pair_view : {D : Type 0} → Ghosts D → Inside D → PairView D
 pair_view g p = record {
   first = one_of p.on_second p.log.disk p.other;
   second = other_of p.on_second p.log.disk p.other;
+  on_second = p.on_second;
   place = p.place;
   epoch = p.epoch;
   count = p.log.count - 1;

@@ -1,7 +1,7 @@
 -- What two disks hold of which one log counts.
-use Rattle.std.specs.Prelude.{◌≡◌, ◌≢◌, ◌⊎◌, ℕ, ◌<◌, ◌≤◌, Bool, true, false, List, [], ◌∷◌, ◌++◌, IfSome, Option}
+use Rattle.std.specs.Prelude.{◌≡◌, ◌≢◌, ◌⊎◌, ℕ, ◌<◌, ◌≤◌, Bool, true, false, List, ◌∷◌, ◌++◌, length}
 use Rattle.gno_num.specs.declared.faults.Damaged.{Damaged as Damage}
-use Rattle.gate_log.specs.Records.{Holds, HasNoLog, IsDamaged}
+use Rattle.gate_log.specs.Records.{Holds, HasNoLog, IsDamaged, log_bytes}
 use Rattle.log_pair.specs.declared.place.Place.{Place}
 use Rattle.log_pair.specs.Header.{FitsHeader, HasHeader, IsEpoch, log_header}
 
@@ -35,6 +35,25 @@ pub record HoldsPair (place : Place) (epoch : ℕ) (records : List (List ℕ)) (
   pub held : Holds (one_of second a b) (log_header place epoch ∷ records)
   pub older : IsOlder second epoch (other_of second a b)
 
+-- the number of a disk, in the order in which they were handed in
+abbrev pub disk_number : Bool → ℕ
+disk_number false = 0
+disk_number true = 1
+
+-- the place of the gate of a record behind these, on the disk whose log counts
+abbrev pub place_behind : Place → ℕ → List (List ℕ) → ℕ
+place_behind place epoch records = length (log_bytes (log_header place epoch ∷ records))
+
+-- Behind these records of the pair this one stands, whose gate is at that place.
+pub record StandsBehind (place : Place) (records : List (List ℕ)) (body : List ℕ) (a b : List ℕ) (d : Damage) : Type 0 where
+  pub second : Bool
+  pub epoch : ℕ
+  pub rest : List (List ℕ)
+  pub counts : Counts second place epoch a b
+  pub held : HoldsPair place epoch (records ++ body ∷ rest) a b
+  pub disk_is : d.disk ≡ disk_number second
+  pub at_is : d.at ≡ place_behind place epoch records
+
 -- no pair of this place is held
 abbrev pub HoldsNoPair : Place → List ℕ → List ℕ → Type 0
 HoldsNoPair place a b = (epoch : ℕ) (records : List (List ℕ)) → HoldsPair place epoch records a b → ⊥
@@ -42,11 +61,6 @@ HoldsNoPair place a b = (epoch : ℕ) (records : List (List ℕ)) → HoldsPair 
 -- neither disk has a log
 abbrev pub HasNoPair : List ℕ → List ℕ → Type 0
 HasNoPair a b = HasNoLog a × HasNoLog b
-
--- the number of a disk, in the order in which they were handed in
-abbrev pub disk_number : Bool → ℕ
-disk_number false = 0
-disk_number true = 1
 
 -- Why two disks are no pair of this place, and where: neither has a whole header; the header that
 -- counts is of another place, or no epoch; or the log that counts is damaged.

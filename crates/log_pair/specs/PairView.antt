@@ -1,17 +1,18 @@
 -- What contracts see of a pair of logs.
-use Rattle.std.specs.Prelude.{◌≡◌, ◌⊎◌, ℕ, ◌+◌, ◌-◌, ◌^◌, min, Bool, List, [], ◌∷◌, ◌++◌, Option, IfSome, IsSome}
+use Rattle.std.specs.Prelude.{◌⊎◌, ℕ, ◌+◌, ◌-◌, ◌^◌, min, Bool, List, [], ◌∷◌, ◌++◌, Option, IfSome, IsSome}
 use Rattle.gno_disk.specs.declared.disk.Disk.{Ghosts}
 use Rattle.gno_disk.specs.Phases.{EachMoment, Phase, phase}
 use Rattle.gate_log.specs.Records.{HasNoLog}
 use Rattle.log_pair.specs.declared.place.Place.{Place}
 use Rattle.log_pair.specs.Pair.{HoldsPair, HasNoPair}
 
--- its disks in the order in which they were handed in, whose log it is and of which epoch, the number
--- of the records behind the header, these records where both disks tell their bytes, whether a call
--- has failed, and how large a body is sure of its memory
+-- its disks in the order in which they were handed in, whether the second one's log counts, whose log
+-- it is and of which epoch, the number of the records behind the header, these records where both disks
+-- tell their bytes, whether a call has failed, and how large a body is sure of its memory
 pub record PairView (D : Type 0) : Type 0 where
   pub first : D
   pub second : D
+  pub on_second : Bool
   pub place : Place
   pub epoch : ℕ
   pub count : ℕ

@@ -1,5 +1,5 @@
 // A pair of logs.
-ghost use Rattle.std.specs.Prelude.{◌≡◌, ◌⊎◌, ◌+◌, ◌<◌, ◌≤◌, ⊤, ℕ, List, Some, [], ◌∷◌, IfOk, IfErr, IfSome, OnOk, OnErr, IsErrOf, is_some, ◌&&◌, ◌==◌, ◌^◌, ◌-◌, min, false, true, length, slice_get};
+ghost use Rattle.std.specs.Prelude.{◌≡◌, ◌⊎◌, ◌+◌, ◌<◌, ◌≤◌, ⊤, ℕ, List, Some, [], ◌∷◌, IfOk, IfErr, IfSome, OnOk, OnErr, IsErrOf, is_some, ◌&&◌, ◌==◌, ◌^◌, ◌-◌, min, false, true, length, take, slice_get};
 ghost use Rattle.gno_disk.specs.Phases.{AtExit, AreUnwritten, EachMoment, phase};
 ghost use Rattle.gate_log.specs.LogView.{Adds, IsFault, MatchFault, MatchMountFault};
 ghost use Rattle.gate_log.specs.Records.{Holds, HoldsNoList, IsDamaged, bodies_of, total_length};
@@ -7,7 +7,7 @@ ghost use Rattle.gate_log.specs.Steps.{IsSynced, IsUntouched};
 ghost use Rattle.gno_num.specs.Faults.{Rose};
 ghost use Rattle.log_pair.specs.Choice.{TwoTold};
 ghost use Rattle.log_pair.specs.Header.{FitsHeader, HasHeader, IsEpoch, log_header};
-ghost use Rattle.log_pair.specs.Pair.{HoldsNoPair, HoldsPair, IsDamagedPair, IsOlder, disk_number, one_of, other_of};
+ghost use Rattle.log_pair.specs.Pair.{Counts, HoldsNoPair, HoldsPair, IsDamagedPair, IsOlder, disk_number, one_of, other_of, place_behind};
 ghost use Rattle.log_pair.specs.PairView.{AreOfPair, AreOldOrAdded, IsLastingPair, IsMaking, OfTwo, both_faults, pair_phases};
 
 use crate::Place;
@@ -48,7 +48,7 @@ const FIRST_EPOCH: u64 = 1;
 impl<D: Disk> LogPair<D> {
     /// A log without records: `create_with` without any.
     pub fn create(alloc: Global, a: D, b: D, place: Place) -> Result<LogPair<D>, (D, D, LogFault)>
-        ensures made { IfOk result (λ pair. (pair.place ≡ place) × (pair.epoch ≡ 1)) }
+        ensures made { IfOk result (λ pair. (pair.place ≡ place) × (pair.epoch ≡ 1) × (pair.on_second ≡ false)) }
         ensures counted { IfOk result (λ pair. (pair.count ≡ 0) × (pair.broken ≡ false) × (pair.spare ≡ 0)) }
         ensures told { IfOk result (λ pair. is_some pair.records ≡ (is_some (D.told a) && is_some (D.told b))) }
         ensures records { IfOk result (λ pair. IfSome pair.records (λ records. records ≡ [])) }
@@ -73,7 +73,7 @@ impl<D: Disk> LogPair<D> {
         place: Place,
         records: &[Vec<u8>],
     ) -> Result<LogPair<D>, (D, D, LogFault)>
-        ensures made { IfOk result (λ pair. (pair.place ≡ place) × (pair.epoch ≡ 1)) }
+        ensures made { IfOk result (λ pair. (pair.place ≡ place) × (pair.epoch ≡ 1) × (pair.on_second ≡ false)) }
         ensures counted { IfOk result (λ pair. (pair.count ≡ length records.now) × (pair.broken ≡ false) × (pair.spare ≡ 0)) }
         ensures told { IfOk result (λ pair. is_some pair.records ≡ (is_some (D.told a) && is_some (D.told b))) }
         ensures records { IfOk result (λ pair. IfSome pair.records (λ made. made ≡ bodies_of records.now)) }
@@ -128,6 +128,7 @@ impl<D: Disk> LogPair<D> {
         ensures place { IfOk result (λ pair. pair.place ≡ place) }
         ensures whole { IfOk result (λ pair. (pair.broken ≡ false) × (pair.spare ≡ 0)) }
         ensures told { IfOk result (λ pair. is_some pair.records ≡ (is_some (D.told a) && is_some (D.told b))) }
+        ensures counts { IfOk result (λ pair. TwoTold (D.told a) (D.told b) (Counts pair.on_second place pair.epoch)) }
         ensures held { IfOk result (λ pair. TwoTold (D.told a) (D.told b) (AreOfPair pair)) }
         ensures exact { IfOk result (λ pair. TwoTold (D.told a) (D.told b) (λ x y. (epoch : ℕ) (records : List (List ℕ))
             → HoldsPair place epoch records x y → (pair.epoch ≡ epoch) × (pair.records ≡ Some records))) }
@@ -170,7 +171,7 @@ impl<D: Disk> LogPair<D> {
         ensures counted { OnOk result ((self.new.count ≡ self.old.count + 1) × (self.new.broken ≡ false)) }
         ensures kept { OnErr result ((self.new.records ≡ self.old.records) × (self.new.count ≡ self.old.count)) }
         ensures spent { OnOk result (self.new.spare ≡ 0) }
-        ensures same { (self.new.place ≡ self.old.place) × (self.new.epoch ≡ self.old.epoch) }
+        ensures same { (self.new.place ≡ self.old.place) × (self.new.epoch ≡ self.old.epoch) × (self.new.on_second ≡ self.old.on_second) }
         ensures came { D.came 4 self.old.first self.new.first × D.came 4 self.old.second self.new.second }
         ensures cause { IfErr result (λ e. MatchFault e
             (λ f. IsFault (both_faults D.Disk self.old.first self.old.second)
@@ -216,7 +217,7 @@ impl<D: Disk> LogPair<D> {
             (λ records. slice_get records index ≡ Some body.items)) }
         ensures records { (self.new.records ≡ self.old.records) × (self.new.count ≡ self.old.count) }
         ensures ok { OnOk result ((self.new.broken ≡ false) × (self.new.spare ≡ self.old.spare)) }
-        ensures same { (self.new.place ≡ self.old.place) × (self.new.epoch ≡ self.old.epoch) }
+        ensures same { (self.new.place ≡ self.old.place) × (self.new.epoch ≡ self.old.epoch) × (self.new.on_second ≡ self.old.on_second) }
         ensures told { (D.told self.new.first ≡ D.told self.old.first) × (D.told self.new.second ≡ D.told self.old.second) }
         ensures unwritten { AreUnwritten D.Disk (pair_phases self.old self.new) }
         ensures left { IsLastingPair D.Disk self.new }
@@ -241,6 +242,22 @@ impl<D: Disk> LogPair<D> {
         ensures told { IfSome self.now.records (λ records. length records ≡ result) }
     {
         self.log.count() - 1
+    }
+
+    /// Where the record with this index stands: the disk, and the place of the record's gate.
+    pub fn place_of(&self, index: u64) -> Damaged
+        requires known { index < self.now.count }
+        requires whole { self.now.broken ≡ false }
+        ensures disk { result.disk ≡ disk_number self.now.on_second }
+        ensures at { IfSome self.now.records
+            (λ records. result.at ≡ place_behind self.now.place self.now.epoch (take index records)) }
+    {
+        let last = self.log.count() - 1;
+        let behind_header = last - (last - index - 1);
+        Damaged {
+            disk: disk_of(self.on_second),
+            at: self.log.place_of(behind_header),
+        }
     }
 
     /// The epoch of the log, from 1 to 2^63.
@@ -338,7 +355,7 @@ fn mount_log<D: Disk>(
     requires header { IfSome (D.told chosen) (HasHeader place choice.epoch) }
     requires older { IfSome (D.told other) (IsOlder choice.on_second choice.epoch) }
     requires synced { IsSynced (D.told other) (D.may_leave other) }
-    ensures place { IfOk result (λ pair. (pair.place ≡ place) × (pair.epoch ≡ choice.epoch)) }
+    ensures place { IfOk result (λ pair. (pair.place ≡ place) × (pair.epoch ≡ choice.epoch) × (pair.on_second ≡ choice.on_second)) }
     ensures whole { IfOk result (λ pair. (pair.broken ≡ false) × (pair.spare ≡ 0)) }
     ensures told { IfOk result (λ pair. is_some pair.records ≡ (is_some (D.told chosen) && is_some (D.told other))) }
     ensures held { IfOk result (λ pair. TwoTold (D.told chosen) (D.told other)

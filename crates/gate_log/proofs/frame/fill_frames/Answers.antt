@@ -1,4 +1,4 @@
-use Rattle.std.proofs.Common.{◌≡◌, ◌+◌, ◌≤◌, ℕ, length, ap, arith, true, false, vec_len, vec_capacity}
+use Rattle.std.proofs.Common.{◌≡◌, ℕ, length, ap, arith, true, false}
 use Rattle.std.specs.Prelude.{Vec}
 use Rattle.std.specs.declared.alloc.Global.{Global}
 use Rattle.gate_log.proofs.MadeLemmas.{log_long-next}

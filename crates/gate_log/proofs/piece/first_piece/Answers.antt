@@ -1,4 +1,4 @@
-use Rattle.std.proofs.Common.{◌≡◌, ◌+◌, ◌≤◌, ◌∙◌, ℕ, length, take, drop, min, IfSome, rules, arith, vec_len}
+use Rattle.std.proofs.Common.{◌≡◌, ◌∙◌, take, drop, min, IfSome, rules, arith, vec_len}
 use Rattle.gate_log.proofs.PieceLemmas.{enough_first, is_piece, length_of_items}
 use Rattle.gate_log.proofs.piece.first_piece.Goals as goal
 

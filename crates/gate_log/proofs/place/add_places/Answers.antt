@@ -1,5 +1,5 @@
 use Rattle.std.proofs.Common.{length, ap, ◌∙◌, arith}
-use Rattle.std.specs.Prelude.{Vec, ◌+◌, ◌<◌, ◌^◌, ◌≡◌, ℕ}
+use Rattle.std.specs.Prelude.{Vec, ℕ}
 use Rattle.std.specs.declared.alloc.Global.{Global}
 use Rattle.gate_log.proofs.MadeLemmas.{log_long-next, placed_next}
 use Rattle.gate_log.proofs.place.add_places.Goals as goal

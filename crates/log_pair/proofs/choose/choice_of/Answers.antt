@@ -1,6 +1,6 @@
-use Rattle.std.proofs.Common.{◌≡◌, ◌⊎◌, Some, None, List, ℕ, refl, ap, sym, subst, ◌∙◌}
+use Rattle.std.proofs.Common.{◌≡◌, Some, None, refl, sym, subst, ◌∙◌}
 use Rattle.log_pair.specs.Choice.{IsHeaderOf}
-use Rattle.log_pair.specs.Pair.{IsDamagedPair, IsOlder, disk_number, one_of, other_of}
+use Rattle.log_pair.specs.Pair.{IsOlder, disk_number, one_of, other_of}
 use Rattle.log_pair.proofs.Choices.{no_choice, no_choice_never, other_choice, other_choice_never, older_than}
 use Rattle.log_pair.proofs.choose.choice_of.Goals as goal
 

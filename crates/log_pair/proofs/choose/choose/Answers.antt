@@ -1,4 +1,3 @@
-use Rattle.std.proofs.Common.{◌≡◌, List, ℕ, ap, sym, subst, ◌∙◌}
 use Rattle.log_pair.specs.Choice.{IsHeaderOf}
 use Rattle.log_pair.specs.Pair.{HoldsNoPair, IsDamagedPair}
 use Rattle.log_pair.proofs.Choices.{two_told}

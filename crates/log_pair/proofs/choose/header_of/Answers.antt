@@ -1,4 +1,4 @@
-use Rattle.std.proofs.Common.{◌≡◌, ◌<◌, ◌^◌, length, None, List, ℕ, Option, ap, sym, subst, ◌∙◌, arith, rules}
+use Rattle.std.proofs.Common.{◌≡◌, ◌<◌, ◌^◌, length, None, subst, ◌∙◌, rules}
 use Rattle.std.specs.Option.{IfSome}
 use Rattle.gate_log.specs.Records.{BeginsWith, HasNoLog}
 use Rattle.log_pair.specs.Choice.{IsHeaderOf}

@@ -1,7 +1,7 @@
-use Rattle.std.proofs.Common.{◌≡◌, List, ℕ, Option, ap, sym, subst, ◌∙◌, arith}
+use Rattle.std.proofs.Common.{arith}
 use Rattle.std.specs.Option.{IfSome}
-use Rattle.log_pair.specs.Inside.{BeginsWithHeader, behind_header}
-use Rattle.log_pair.specs.Pair.{HoldsPair, one_of, other_of}
+use Rattle.log_pair.specs.Inside.{behind_header}
+use Rattle.log_pair.specs.Pair.{HoldsPair}
 use Rattle.log_pair.proofs.Images.{image_held, images_of, older_image, older_synced}
 use Rattle.log_pair.proofs.Mounted.{mounted_header, mounted_held, mounted_exact, told_short}
 use Rattle.log_pair.proofs.pair.mount_log.Goals as goal

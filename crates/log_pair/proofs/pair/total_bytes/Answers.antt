@@ -1,4 +1,4 @@
-use Rattle.std.proofs.Common.{◌≡◌, ℕ, ◌+◌, [], ◌∷◌, ◌++◌, take, length, sym, ap, ◌∙◌, arith, rules}
+use Rattle.std.proofs.Common.{◌≡◌, ◌+◌, [], ◌∷◌, ◌++◌, take, length, sym, ap, ◌∙◌, arith, rules}
 use Rattle.gate_log.specs.Records.{bodies_of, total_length}
 use Rattle.gate_log.proofs.MadeLemmas.{bodies_of-more}
 use Rattle.log_pair.proofs.Making.{total_length-push}

@@ -1,4 +1,4 @@
-use Rattle.std.proofs.Common.{◌≡◌, ◌+◌, ◌≤◌, ◌<◌, ◌^◌, ◌∷◌, [], ◌++◌, ℕ, List, length, length-append, sym, ap, ◌∙◌, refl, rules, arith}
+use Rattle.std.proofs.Common.{◌≡◌, ◌+◌, ◌≤◌, ◌<◌, ◌^◌, ◌∷◌, [], ◌++◌, ℕ, List, length, length-append, ap, ◌∙◌, refl, rules, arith}
 use Rattle.gno_disk.specs.Disk.{Told}
 use Rattle.gate_log.specs.Records.{log_bytes, bodies_of}
 use Rattle.gate_log.specs.Steps.{StandsFirst, IsSynced, OldOrNoneOr, IsRemade}

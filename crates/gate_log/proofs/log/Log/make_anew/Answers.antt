@@ -1,9 +1,9 @@
-use Rattle.std.proofs.Common.{◌≡◌, ◌+◌, ◌≤◌, ◌<◌, ◌^◌, ◌∷◌, [], ◌++◌, ℕ, List, length, length-append, sym, ap, subst, ◌∙◌, refl, true, false, rules, arith}
+use Rattle.std.proofs.Common.{◌≡◌, ◌+◌, ◌≤◌, ◌<◌, ◌^◌, ◌∷◌, [], ◌++◌, ℕ, List, length, length-append, ap, subst, ◌∙◌, refl, true, false, rules, arith}
 use Rattle.gno_disk.specs.Disk.{Told}
 use Rattle.gate_log.specs.LogView.{LogView, IsOldOrMade}
 use Rattle.gate_log.specs.Records.{log_bytes, bodies_of}
 use Rattle.gate_log.specs.Steps.{StandsFirst, IsSynced, OldOrNoneOr, IsRemade, IsRemadeOrStill}
-use Rattle.gate_log.proofs.Moments.{remade_weaker, remade_or_still_weaker, still_start}
+use Rattle.gate_log.proofs.Moments.{remade_weaker, remade_or_still_weaker}
 use Rattle.gate_log.proofs.LogLemmas.{told_durable}
 use Rattle.gate_log.proofs.MadeLemmas.{bodies_of-long, places_of-long, made_holds, made_places, made_written, made_closed, made_records, too_little, within_room}
 use Rattle.gate_log.proofs.log.Log.make_anew.Goals as goal

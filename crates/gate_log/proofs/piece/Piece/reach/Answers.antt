@@ -1,4 +1,4 @@
-use Rattle.std.proofs.Common.{◌≡◌, ◌≢◌, ◌+◌, ◌-◌, ◌≤◌, ◌∙◌, ap, ℕ, length, take, drop, min, IfSome, rules, arith, vec_len}
+use Rattle.std.proofs.Common.{◌≡◌, ◌≢◌, ◌+◌, ◌-◌, ◌≤◌, ◌∙◌, length, min, rules, arith, vec_len}
 use Rattle.gate_log.proofs.Moments.{on_ok}
 use Rattle.gate_log.proofs.PieceLemmas.{enough_later, reach_later, is_piece, length_of_items, on_ok_then}
 use Rattle.gate_log.proofs.piece.Piece.reach.Goals as goal

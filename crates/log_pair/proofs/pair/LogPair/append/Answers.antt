@@ -1,4 +1,4 @@
-use Rattle.std.proofs.Common.{◌≡◌, ◌≤◌, false, [], ◌∷◌, List, ℕ, ap, sym, subst, ◌∙◌, arith, rules}
+use Rattle.std.proofs.Common.{◌≤◌, [], ◌∷◌, List, ℕ, sym, subst, arith}
 use Rattle.gno_disk.specs.Phases.{EachMoment, phase}
 use Rattle.gno_disk.proofs.PhaseLemmas.{EachMoment-exit}
 use Rattle.std.specs.Option.{IfSome}
@@ -6,7 +6,7 @@ use Rattle.std.specs.Result.{OnOk}
 use Rattle.gate_log.specs.LogView.{Adds, IsLasting, IsOldOrAdded}
 use Rattle.log_pair.specs.Inside.{behind_header, pair_view}
 use Rattle.log_pair.specs.Pair.{HoldsPair, one_of, other_of}
-use Rattle.log_pair.specs.PairView.{PairView, IsLastingPair, AreOfPair, AreOldOrAdded, OfTwo, pair_phases}
+use Rattle.log_pair.specs.PairView.{PairView, AreOldOrAdded, OfTwo}
 use Rattle.log_pair.proofs.Images.{OnOk-both, came_both, header_added, image_added, image_held, images_of, moments_both, older_image}
 use Rattle.log_pair.proofs.pair.LogPair.append.Goals.{in-Ok, in-Err-Memory, in-Err-DiskFault}
 use Rattle.log_pair.proofs.pair.LogPair.append.Goals as goal

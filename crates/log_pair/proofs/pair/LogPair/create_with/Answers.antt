@@ -1,7 +1,6 @@
 use Rattle.std.proofs.Common.{◌≡◌, ◌≤◌, false, [], ◌∷◌, ◌&&◌, List, ℕ, inl, sym, ap, subst, ◌∙◌, rules, arith}
 use Rattle.std.specs.Option.{IfSome, is_some}
 use Rattle.gno_disk.specs.Disk.{Told}
-use Rattle.gno_disk.specs.Moments.{LeavesOnly}
 use Rattle.gno_disk.specs.Phases.{EachMoment, phase}
 use Rattle.gno_disk.proofs.Moments.{LeavesOnly-start}
 use Rattle.gate_log.specs.LogView.{IsLasting, IsOldOrMade}

@@ -1,9 +1,7 @@
-use Rattle.std.proofs.Common.{◌≡◌, true, false, List, ℕ, Option, ap, sym, subst, ◌∙◌}
-use Rattle.std.specs.Option.{IfSome}
-use Rattle.gate_log.specs.LogView.{IsOfRecords}
+use Rattle.std.proofs.Common.{◌≡◌, false, subst}
 use Rattle.log_pair.specs.Choice.{TwoTold}
 use Rattle.log_pair.specs.Inside.{pair_view}
-use Rattle.log_pair.specs.Pair.{IsOlder, one_of, other_of}
+use Rattle.log_pair.specs.Pair.{one_of, other_of}
 use Rattle.log_pair.specs.PairView.{PairView, AreOfPair}
 use Rattle.log_pair.proofs.Images.{told_held}
 use Rattle.log_pair.proofs.pair.LogPair.into_disks.Goals as goal

@@ -1,4 +1,4 @@
-use Rattle.std.proofs.Common.{◌≡◌, false, List, ℕ, ap, sym, subst, ◌∙◌}
+use Rattle.std.proofs.Common.{◌≡◌, false, subst}
 use Rattle.log_pair.specs.Inside.{pair_view}
 use Rattle.log_pair.specs.PairView.{PairView, IsLastingPair, AreOfPair}
 use Rattle.log_pair.proofs.Images.{image_held, images_of, older_image}

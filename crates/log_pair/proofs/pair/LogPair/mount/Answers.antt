@@ -1,15 +1,12 @@
-use Rattle.std.proofs.Common.{◌≡◌, ◌≤◌, ◌∷◌, true, false, List, ℕ, Option, Some, ap, sym, subst, ◌∙◌, rules, arith}
+use Rattle.std.proofs.Common.{◌≡◌, ◌≤◌, ◌∷◌, Bool, true, false, List, ℕ, Option, Some, ap, sym, subst, ◌∙◌, rules}
 use Rattle.std.specs.Bool.{⊤}
 use Rattle.std.specs.Option.{IfSome}
-use Rattle.std.specs.Result.{IfOk, IfErr}
-use Rattle.gno_num.specs.Faults.{Rose}
-use Rattle.gate_log.specs.LogView.{IsFault, MatchMountFault}
 use Rattle.gate_log.specs.Records.{Holds, HoldsNoList, IsDamaged}
 use Rattle.log_pair.specs.Choice.{TwoTold}
-use Rattle.log_pair.specs.Header.{HasHeader, log_header}
-use Rattle.log_pair.specs.Pair.{HoldsNoPair, HoldsPair, IsDamagedPair, IsOlder, disk_number, one_of, other_of}
-use Rattle.log_pair.specs.PairView.{PairView, both_faults}
-use Rattle.log_pair.proofs.Choices.{pair_exact, damaged_told, never_told}
+use Rattle.log_pair.specs.Header.{log_header}
+use Rattle.log_pair.specs.declared.place.Place.{Place}
+use Rattle.log_pair.specs.Pair.{Counts, one_of, other_of}
+use Rattle.log_pair.proofs.Choices.{counted, pair_exact, damaged_told, never_told}
 use Rattle.log_pair.proofs.Mounting.{IfOk-both, IfErr-both, fault_to, came_two, fault_of_other, fault_of_two}
 use Rattle.log_pair.proofs.pair.LogPair.mount.Goals as goal
 
@@ -47,10 +44,38 @@ returns-then-not-choice-clause-exact g c =
     let T : Option (List (List ℕ)) → Option (List ℕ) → Option (List ℕ) → Type 0 =
     λ records u v. TwoTold u v (λ x _. (rs : List (List ℕ)) → Holds x (log_header place n ∷ rs) → records ≡ Some rs) in
     let m = c.mount_log.ensures in
-    IfOk-both c.mount_log.result (λ pair. (pair.place ≡ place) × (pair.epoch ≡ n)) (λ pair. T pair.records (told c.choose.new.a) (told c.choose.new.b)) _
+    IfOk-both c.mount_log.result (λ pair. (pair.place ≡ place) × (pair.epoch ≡ n) × (pair.on_second ≡ s)) (λ pair. T pair.records (told c.choose.new.a) (told c.choose.new.b)) _
     (λ pair same exact. pair_exact place n s A B pair.epoch pair.records same.1 c.in-Ok.ensures.header c.in-Ok.ensures.older
     (subst (T pair.records (one_of s A B)) other (subst (λ u. T pair.records u (told c.choose.new.b)) one exact)))
     m.place m.exact
+
+-- the log that was chosen counts
+counts_by : (place : Place) (n epoch : ℕ) (s second : Bool) (A B : Option (List ℕ)) → epoch ≡ n → second ≡ s → TwoTold A B (Counts s place n) → TwoTold A B (Counts second place epoch)
+counts_by place n epoch s second A B same same_disk counted =
+    subst (λ (m : ℕ). TwoTold A B (Counts second place m)) (sym same) (subst (λ (t : Bool). TwoTold A B (Counts t place n)) (sym same_disk) counted)
+
+pub returns-then-not-choice-clause-counts : goal.returns-then-not-choice-clause-counts
+returns-then-not-choice-clause-counts g c =
+    let s = c.in-Ok.choice.on_second in
+    let n = c.in-Ok.choice.epoch in
+    let place = c.args.place in
+    let A = g.D.Disk.told c.args.a in
+    let B = g.D.Disk.told c.args.b in
+    let m = c.mount_log.ensures in
+    IfOk-both c.mount_log.result (λ pair. (pair.place ≡ place) × (pair.epoch ≡ n) × (pair.on_second ≡ s)) (λ pair. (pair.place ≡ place) × (pair.epoch ≡ n) × (pair.on_second ≡ s)) _
+    (λ pair same _. counts_by place n pair.epoch s pair.on_second A B same.1 same.2 (counted place n s A B c.in-Ok.ensures.header c.in-Ok.ensures.older))
+    m.place m.place
+
+pub returns-in-Ok-mount_log-clause-counts : goal.returns-in-Ok-mount_log-clause-counts
+returns-in-Ok-mount_log-clause-counts g c =
+    let s = c.in-Ok.choice.on_second in
+    let n = c.in-Ok.choice.epoch in
+    let place = c.args.place in
+    let A = g.D.Disk.told c.args.a in
+    let B = g.D.Disk.told c.args.b in
+    let pair = c.in-Ok-mount_log.pair in
+    let m = c.in-Ok-mount_log.ensures in
+    counts_by place n pair.epoch s pair.on_second A B m.place.1 m.place.2 (counted place n s A B c.in-Ok.ensures.header c.in-Ok.ensures.older)
 
 pub returns-then-not-choice-clause-cause : goal.returns-then-not-choice-clause-cause
 returns-then-not-choice-clause-cause g c =

@@ -1,6 +1,5 @@
-use Rattle.std.proofs.Common.{◌≡◌, List, ℕ, Option, ap, sym, subst, ◌∙◌}
+use Rattle.std.proofs.Common.{List, ℕ, Option, sym, subst}
 use Rattle.std.specs.Option.{IfSome}
-use Rattle.gate_log.specs.LogView.{IsOfRecords}
 use Rattle.log_pair.specs.Inside.{behind_header}
 use Rattle.log_pair.specs.Pair.{HoldsPair, one_of, other_of}
 use Rattle.log_pair.proofs.Images.{image_held, images_of, older_image}
