@@ -405,6 +405,13 @@ impl<D: Disk> Log<D> {
         self.places.len() as u64
     }
 
+    /// How often the disk has failed.
+    pub fn faults(&self) -> u64
+        ensures { result ≡ D.faults self.now.disk }
+    {
+        self.disk.faults()
+    }
+
     /// The place of the gate of the record with this index.
     pub fn place_of(&self, index: u64) -> u64
         requires known { index < self.now.count }

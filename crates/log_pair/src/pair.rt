@@ -244,6 +244,13 @@ impl<D: Disk> LogPair<D> {
         self.log.count() - 1
     }
 
+    /// How often both disks have failed, at most 2^64 - 1.
+    pub fn faults(&self) -> u64
+        ensures { result ≡ both_faults D.Disk self.now.first self.now.second }
+    {
+        self.log.faults().saturating_add(self.other.faults())
+    }
+
     /// Where the record with this index stands: the disk, and the place of the record's gate.
     pub fn place_of(&self, index: u64) -> Damaged
         requires known { index < self.now.count }
