@@ -1,0 +1,8 @@
+mod Cutting
+mod Halves
+mod Leaving
+mod Making
+mod RunLaws
+mod Runs
+mod Scratch
+mod Updating
