@@ -1,0 +1,11 @@
+//! What the records of a shelf's log amount to: where the splits of a metric are stored.
+#![tactic(auto)]
+
+mod laws;
+mod series;
+
+pub use laws::change_moves_one_split;
+pub use series::{Series, Stored};
+
+#[cfg(test)]
+mod tests;
