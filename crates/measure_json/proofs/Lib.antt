@@ -5,6 +5,7 @@ pub mod IdLemmas
 pub mod ItemLemmas
 pub mod NumberLemmas
 pub mod PlainLemmas
+pub mod ShortLemmas
 pub mod SoundLemmas
 pub mod StepLemmas
 pub mod StringLemmas

@@ -107,7 +107,7 @@ front_is a rest =
 joined : (s w p x rest : List ℕ) → s ++ (w ++ (p ++ (x ++ rest))) ≡ (s ++ (w ++ (p ++ x))) ++ rest
 joined s w p x rest = simp append_assoc
 
-minus_join : (text : List ℕ) → text ≡ sign_text (begins_with 45 text) ++ without_front 45 text
+pub minus_join : (text : List ℕ) → text ≡ sign_text (begins_with 45 text) ++ without_front 45 text
 minus_join text =
     elim (cases_Bool (begins_with 45 text)) [
       | inl is ↦ rw is (front_with 45 text is)
@@ -145,8 +145,8 @@ pub record Ends (text : List ℕ) : Type 0 where
   pub exponent : exponent_end text ≡ Ok text
 
 -- a byte that doesn't go on with a number
-record EndsAt (c : ℕ) : Type 0 where
-  at : (text : List ℕ) → Ends (c ∷ text)
+pub record EndsAt (c : ℕ) : Type 0 where
+  pub at : (text : List ℕ) → Ends (c ∷ text)
 
 ends_space : EndsAt 32
 unfolding exponent_end
@@ -172,7 +172,7 @@ pub ends_brace : (text : List ℕ) → Ends (125 ∷ text)
 unfolding exponent_end
 ends_brace text = record { stops = stops_at 125 text refl; point = refl; exponent = refl }
 
-blank_ends : (c : ℕ) → is_blank c ≡ true → EndsAt c
+pub blank_ends : (c : ℕ) → is_blank c ≡ true → EndsAt c
 blank_ends c h =
     elim (or_cases (((c == 32) || (c == 9)) || (c == 10)) (c == 13) h) [
       | inl three ↦

@@ -43,10 +43,19 @@ plain_string : (bytes rest : List ℕ) → all_plain bytes ≡ true → StringTe
 plain_string bytes rest h =
     (bytes, (map plain bytes, plain_are bytes h, plain_written bytes, plain_meant bytes), refl)
 
-no_blanks : (text : List ℕ) → Blanks text text
+-- the two keys
+pub time_key : (rest : List ℕ) → StringText (34 ∷ (codes "timestamp" ++ 34 ∷ rest)) (codes "timestamp") rest
+unfolding all_plain
+time_key rest = plain_string (codes "timestamp") rest refl
+
+pub value_key : (rest : List ℕ) → StringText (34 ∷ (codes "value" ++ 34 ∷ rest)) (codes "value") rest
+unfolding all_plain
+value_key rest = plain_string (codes "value") rest refl
+
+pub no_blanks : (text : List ℕ) → Blanks text text
 no_blanks text = ([], tt, refl)
 
-close_mark : (mark : ℕ) (text : List ℕ) → Mark mark (mark ∷ text) text
+pub close_mark : (mark : ℕ) (text : List ℕ) → Mark mark (mark ∷ text) text
 close_mark mark text = (text, no_blanks (mark ∷ text), no_blanks text)
 
 short_seconds : (n : ℕ) → n < 9 * 10 ^ 18 → length (point_text 9 n) ≤ 64
@@ -75,7 +84,6 @@ value_text v rest h =
     (units_text v, inr (number.0, number.1, refl), read-units_text v h)
 
 measure_text : (m : Measure) (rest : List ℕ) → InRange m → MeasureText (measure_before m rest) m rest
-unfolding all_plain
 measure_text m rest h =
     let closing = 125 ∷ rest in
     let value = units_text m.value ++ closing in
@@ -87,7 +95,7 @@ measure_text m rest h =
       closing,
       refl,
       no_blanks inside,
-      inl (44 ∷ second, second, (58 ∷ time, time, plain_string (codes "timestamp") (58 ∷ time) refl, close_mark 58 time, time_text m.at (44 ∷ second) h.0), close_mark 44 second, (58 ∷ value, value, plain_string (codes "value") (58 ∷ value) refl, close_mark 58 value, value_text m.value closing h.1)),
+      inl (44 ∷ second, second, (58 ∷ time, time, time_key (58 ∷ time), close_mark 58 time, time_text m.at (44 ∷ second) h.0), close_mark 44 second, (58 ∷ value, value, value_key (58 ∷ value), close_mark 58 value, value_text m.value closing h.1)),
       no_blanks closing,
     )
 

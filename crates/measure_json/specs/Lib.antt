@@ -8,5 +8,6 @@ pub mod Marks
 pub mod Measures
 pub mod Number
 pub mod Plain
+pub mod Short
 pub mod Spelled
 pub mod Text

@@ -8,6 +8,7 @@ mod laws;
 mod marks;
 mod measures;
 mod number;
+mod short;
 mod text;
 
 pub use answer::write_answer;

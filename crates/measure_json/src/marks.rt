@@ -5,7 +5,7 @@ ghost use Rattle.measure_json.specs.Marks.{is_blank, skip_blank, mark_at, begins
 
 use crate::fault::{JsonKind, ReadError, fault_at, syntax};
 
-fn is_blank(byte: u8) -> bool
+pub fn is_blank(byte: u8) -> bool
     ensures { result ≡ is_blank byte }
 {
     byte == b' ' || byte == b'\t' || byte == b'\n' || byte == b'\r'

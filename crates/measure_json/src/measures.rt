@@ -10,6 +10,7 @@ ghost use Rattle.measure_json.specs.Measures.{scalar_at, time_at, value_at, key_
 use crate::fault::{BodyFault, JsonKind, ReadError, body_fault, fault_at, syntax};
 use crate::marks::{begins_number, colon_at, mark_at, next_at, opened, other_value, skip_blank};
 use crate::number::number_at;
+use crate::short::{short_key, short_measure, short_time_at, short_value_at};
 use crate::text::{Spelled, string_at};
 use gno_num::{Stamp, Value, read_value, skip};
 use gno_time::read_stamp;
@@ -34,8 +35,18 @@ fn scalar_at<'a>(
     }
 }
 
-#[tactic(auto, unfolding(crate::specs::Measures::time_at))]
 fn time_at<'a>(text: &'a [u8], unescaped: &mut Vec<u8>) -> Result<(Stamp, &'a [u8]), ReadError>
+    ensures { Gives (λ found. (found.0, found.1.now)) result (time_at text.now) }
+{
+    match short_time_at(text) {
+        Some(found) => Ok(found),
+        None => any_time_at(text, unescaped),
+    }
+}
+
+// The same in any spelling.
+#[tactic(auto, unfolding(crate::specs::Measures::time_at))]
+fn any_time_at<'a>(text: &'a [u8], unescaped: &mut Vec<u8>) -> Result<(Stamp, &'a [u8]), ReadError>
     ensures { Gives (λ found. (found.0, found.1.now)) result (time_at text.now) }
 {
     let (spelled, rest) = scalar_at(text, unescaped)?;
@@ -45,8 +56,18 @@ fn time_at<'a>(text: &'a [u8], unescaped: &mut Vec<u8>) -> Result<(Stamp, &'a [u
     }
 }
 
-#[tactic(auto, unfolding(crate::specs::Measures::value_at))]
 fn value_at<'a>(text: &'a [u8], unescaped: &mut Vec<u8>) -> Result<(Value, &'a [u8]), ReadError>
+    ensures { Gives (λ found. (found.0, found.1.now)) result (value_at text.now) }
+{
+    match short_value_at(text) {
+        Some(found) => Ok(found),
+        None => any_value_at(text, unescaped),
+    }
+}
+
+// The same in any spelling.
+#[tactic(auto, unfolding(crate::specs::Measures::value_at))]
+fn any_value_at<'a>(text: &'a [u8], unescaped: &mut Vec<u8>) -> Result<(Value, &'a [u8]), ReadError>
     ensures { Gives (λ found. (found.0, found.1.now)) result (value_at text.now) }
 {
     let (spelled, rest) = scalar_at(text, unescaped)?;
@@ -82,8 +103,18 @@ fn is_word(name: &[u8], word: &[u8]) -> bool
 }
 
 // One of the two keys, and what follows it.
-#[tactic(auto, unfolding(crate::specs::Measures::key_at))]
 fn key_at<'a>(text: &'a [u8], unescaped: &mut Vec<u8>) -> Result<(Key, &'a [u8]), ReadError>
+    ensures { Gives (λ found. (found.0, found.1.now)) result (key_at text.now) }
+{
+    match short_key(text) {
+        Some(found) => Ok(found),
+        None => any_key_at(text, unescaped),
+    }
+}
+
+// The same in any spelling.
+#[tactic(auto, unfolding(crate::specs::Measures::key_at))]
+fn any_key_at<'a>(text: &'a [u8], unescaped: &mut Vec<u8>) -> Result<(Key, &'a [u8]), ReadError>
     ensures { Gives (λ found. (found.0, found.1.now)) result (key_at text.now) }
 {
     let inside = mark_at(b'"', text)?;
@@ -250,8 +281,21 @@ fn value_first<'a>(
     Ok((Measure { at, value }, rest))
 }
 
-#[tactic(auto, unfolding(crate::specs::Measures::measure_at))]
 fn measure_at<'a>(text: &'a [u8], unescaped: &mut Vec<u8>) -> Result<(Measure, &'a [u8]), ReadError>
+    ensures { Gives (λ found. (found.0, found.1.now)) result (measure_at text.now) }
+{
+    match short_measure(text) {
+        Some(found) => Ok(found),
+        None => any_measure_at(text, unescaped),
+    }
+}
+
+// The same in any spelling.
+#[tactic(auto, unfolding(crate::specs::Measures::measure_at))]
+fn any_measure_at<'a>(
+    text: &'a [u8],
+    unescaped: &mut Vec<u8>,
+) -> Result<(Measure, &'a [u8]), ReadError>
     ensures { Gives (λ found. (found.0, found.1.now)) result (measure_at text.now) }
 {
     let inside = opened(b'{', text)?;

@@ -71,7 +71,7 @@ fn outcome(alloc: Global, body: &[u8]) -> Result<String, Fail> {
 }
 
 // Bodies, and what they give, worked by hand from the rules.
-const BODIES: [(&[u8], &str); 62] = [
+const BODIES: [(&[u8], &str); 64] = [
     // accepted
     (b"[]", ""),
     (b" \t\r\n[ \n] \t", ""),
@@ -94,6 +94,14 @@ const BODIES: [(&[u8], &str); 62] = [
     (
         b"[{\"timestamp\":\"1970\\u002d01-02\",\"value\":1}]",
         "86400000000000:1000000 ",
+    ),
+    (
+        b"[{\"timestamp\": 1600000000.000001, \"value\": -12.345678}]",
+        "1600000000000001000:-12345678 ",
+    ),
+    (
+        b"[{\"timestamp\":0.0000001,\"value\":0.1234567}]",
+        "100:123457 ",
     ),
     // syntax
     (b"", "0 Syntax"),
