@@ -1,0 +1,10 @@
+pub mod Pieces
+pub mod Walk
+pub mod RouterLaw
+pub mod RowLemmas
+pub mod PathLaws
+pub mod SegmentLemmas
+pub mod FoundLemmas
+pub mod EscapeLemmas
+pub mod ParameterLemmas
+pub mod TargetLemmas

@@ -1,0 +1,9 @@
+pub mod Escapes
+pub mod Method
+pub mod Parameter
+pub mod Path
+pub mod Route
+pub mod Routes
+pub mod Table
+pub mod Target
+pub mod Written
