@@ -129,7 +129,7 @@ not_found k (y ∷ ys) (b ∷ bs) behind =
 
 -- ---- what stands at a place
 
-above_all : (k : ℕ) (xs : List ℕ) → Above k xs → All (λ x. k < x) xs
+pub above_all : (k : ℕ) (xs : List ℕ) → Above k xs → All (λ x. k < x) xs
 above_all k [] above = All-nil (λ x. k < x)
 above_all k (x ∷ xs) above = All-cons (λ y. k < y) x xs above.0 (above_all k xs above.1)
 

@@ -2,9 +2,11 @@
 #![tactic(auto)]
 
 mod laws;
+mod moves;
 mod series;
 
 pub use laws::change_moves_one_split;
+pub use moves::{Move, moves_between};
 pub use series::{Series, Stored};
 
 #[cfg(test)]
