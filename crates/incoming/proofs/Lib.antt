@@ -1,0 +1,11 @@
+mod Held
+mod Kept
+mod Logs
+mod Marks
+mod Mounted
+mod Places
+mod PostMoments
+mod ReadLemmas
+mod Results
+mod Taken
+mod Views
