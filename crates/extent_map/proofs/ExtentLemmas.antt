@@ -54,23 +54,6 @@ takes_cut old new i at len size x form got low high cut part below over end =
       );
     }
 
--- places from the end on are taken
-pub takes_end : (old new : ExtentsView) (len : ℕ) → AreFreeRanges old.end old.free → new.free ≡ old.free → new.end ≡ old.end + len → Takes (old.end, len) old new
-takes_end old new len form free end =
-    record {
-      unused = λ p h. inl h.0;
-      used = λ p. (
-        (λ h. ⊎_elim
-            (λ under. inl (under, subst (All (LiesOutside p)) free h.1))
-            (λ behind. inr (behind, omega (arith, h.0)))
-            (cases_lt p old.end)),
-        (λ h. ⊎_elim
-            (λ was. (omega (arith, was.0), subst (All (LiesOutside p)) (sym free) was.1))
-            (λ taken. (omega arith, subst (All (LiesOutside p)) (sym free) (outside_behind old.end p old.free form taken.0)))
-            h),
-      );
-    }
-
 -- places behind the end are taken, and those up to them become free
 pub takes_behind : (old new : ExtentsView) (at len : ℕ) → AreFreeRanges old.end old.free → old.end < at → Joins (old.end, at - old.end) old.free new.free → new.end ≡ at + len → Takes (at, len) old new
 takes_behind old new at len form beyond join end =

@@ -1,12 +1,10 @@
 -- Places outside of every range, and ranges that hold a place.
-use Rattle.std.proofs.Common.{◌≡◌, ◌∙◌, ℕ, ◌+◌, ◌<◌, ◌≤◌, inl, inr, List, ◌∷◌, ◌++◌, Some, None, get_or, take, drop, sym, subst, ⊎_elim, arith}
+use Rattle.std.proofs.Common.{◌≡◌, ℕ, ◌+◌, ◌<◌, ◌≤◌, inl, inr, List, ◌∷◌, ◌++◌, Some, get_or, take, drop, subst, ⊎_elim, arith}
 use Rattle.std.specs.List.{All, AllPairs, slice_get}
 use Rattle.std.proofs.lemmas.Bool.{cases_lt}
-use Rattle.std.proofs.lemmas.List.{take_all}
 use Rattle.std.proofs.lemmas.List.Elements.{All-append, All-cons, All-head, All-same}
-use Rattle.std.proofs.lemmas.Option.{slice_get_cases, get_or_from_slice_get}
 use Rattle.extent_map.specs.Ranges.{EndsBefore, LiesIn, LiesOutside}
-use Rattle.extent_map.proofs.RangeLemmas.{got_within, split_got, pairs-right, pairs-head}
+use Rattle.extent_map.proofs.RangeLemmas.{split_got, pairs-right, pairs-head}
 use Rattle.extent_map.proofs.JoinLemmas.{Misses, drop_got}
 
 -- all ranges in front end by the place, and those behind begin behind it
@@ -19,22 +17,6 @@ outside_between xs i at place x apart before low got high this =
     (λ k d h. inr (omega (arith, before k d h)))
     (All-cons (LiesOutside place) x (drop (i + 1) xs) this
     (λ k d h. inl (omega (arith, pairs-head EndsBefore x (drop (i + 1) xs) (pairs-right EndsBefore (take i xs) (x ∷ drop (i + 1) xs) apart') k d h)))))
-
--- all ranges end by the place
-pub outside_all : (xs : List (ℕ × ℕ)) (i at : ℕ) → All (λ (r : ℕ × ℕ). r.0 + r.1 < at + 1) (take i xs) → slice_get xs i ≡ None → All (LiesOutside at) xs
-outside_all xs i at before none =
-    elim (slice_get_cases xs i).1 [
-      | inl there ↦ absurd (let no : Some there.0 ≡ None = sym there.2 ∙ none in cc)
-      | inr past ↦ λ k d h. inr (
-          let all : take i xs ≡ xs = take_all i xs past.0 in
-          omega (arith, subst (All (λ (r : ℕ × ℕ). r.0 + r.1 < at + 1)) all before k d h)
-          )
-    ]
-
--- what a range that is there fits below
-pub got_below : (xs : List (ℕ × ℕ)) (i end : ℕ) (x : ℕ × ℕ) → AllPairs EndsBefore xs → All (λ (r : ℕ × ℕ). r.0 + r.1 ≤ end) xs → slice_get xs i ≡ Some x → x.0 + x.1 ≤ end
-got_below xs i end x apart below got =
-    subst (λ (r : ℕ × ℕ). r.0 + r.1 ≤ end) (get_or_from_slice_get xs i x x got) (below i x (got_within xs i x got))
 
 -- a range all of whose places are outside of others overlaps none of them
 pub misses_outside : (xs : List (ℕ × ℕ)) (at len : ℕ) → 0 < len → All (λ (r : ℕ × ℕ). 0 < r.1) xs → ((p : ℕ) → LiesIn p (at, len) → All (LiesOutside p) xs) → All (Misses at len) xs

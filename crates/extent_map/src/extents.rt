@@ -1,5 +1,5 @@
 // The extents of a disk of blocks.
-ghost use Rattle.std.specs.Prelude.{◌≡◌, ℕ, ◌+◌, ◌^◌, ◌<◌, ◌≤◌, ◌↔◌, min, nat_le, [], All, AllPairs, Any, IfOk, OnOk, OnErr, IsSomeAnd, MatchOption, length, position, slice_get};
+ghost use Rattle.std.specs.Prelude.{◌≡◌, ℕ, ◌+◌, ◌^◌, ◌<◌, ◌≤◌, ◌↔◌, min, nat_le, [], All, AllPairs, Any, IfOk, OnOk, OnErr, IsSomeAnd, MatchOption, position, slice_get};
 ghost use Rattle.std.specs.Bool.{OnTrue, OnFalse};
 ghost use Rattle.extent_map.specs.Extents.{Claims, Gives, HoldsUsed, IsLastEnd, IsUsed, Takes, TakesEnd, TakesFront};
 ghost use Rattle.extent_map.specs.Ranges.{AreDisjoint, AreFreeRanges, LiesIn};

@@ -2,7 +2,7 @@
 ghost use Rattle.std.specs.Prelude.{◌≡◌, ◌≢◌, ℕ, ◌+◌, ◌-◌, ◌^◌, ◌<◌, ◌≤◌, ◌⊎◌, ◌∷◌, ◌++◌, All, AllPairs, OnOk, OnErr, IfSome, IfNone, IsSomeAnd, Some, length, slice_get, take, drop, vec_len, vec_capacity};
 ghost use Rattle.extent_map.specs.Edits.{Cuts, Joins};
 ghost use Rattle.extent_map.specs.Extents.{without_front};
-ghost use Rattle.extent_map.specs.Ranges.{AreFreeRanges, EndsBefore, LiesOutside};
+ghost use Rattle.extent_map.specs.Ranges.{AreFreeRanges, EndsBefore};
 
 use gno_num::Memory;
 
