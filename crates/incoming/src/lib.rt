@@ -17,3 +17,6 @@ pub use incoming::Incoming;
 pub use laws::{empty_log, one_content};
 pub use log_pair::{LogFault, MountFault, Place};
 pub use mark::Mark;
+
+#[cfg(test)]
+mod tests;
