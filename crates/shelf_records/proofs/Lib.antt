@@ -1,3 +1,6 @@
+mod Changing
+mod First
 mod Keys
+mod Merging
 mod Moving
-mod Steps
+mod Places

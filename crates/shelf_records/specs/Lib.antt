@@ -1,2 +1,5 @@
+pub mod Changes
+pub mod Filed
+pub mod Moves
 pub mod Series
 pub mod Shelved

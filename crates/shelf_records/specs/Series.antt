@@ -1,6 +1,6 @@
 -- Where the splits of one definition and kind are stored.
-use Rattle.std.specs.Prelude.{◌≡◌, ℕ, ◌-◌, ◌<◌, ◌==◌, nat_lt, if◌then◌else◌, List, [], ◌∷◌, ◌++◌, length, Option, Some, None}
-use Rattle.std.specs.List.{filter, fold, slice_get}
+use Rattle.std.specs.Prelude.{◌≡◌, ℕ, ◌==◌, nat_lt, if◌then◌else◌, List, [], ◌∷◌, ◌++◌, length, Option, Some, None}
+use Rattle.std.specs.List.{filter, fold}
 use Rattle.std.specs.List.Sorted.{IsStrictlyIncreasing}
 use Rattle.gno_codec.specs.declared.item.Block.{Block}
 use Rattle.shelf_records.specs.declared.moves.Move.{Move}
@@ -45,9 +45,3 @@ after_move splits move = changed move.key move.block splits
 -- the splits after moves, one after another
 abbrev pub after_moves : List Move → List Stored → List Stored
 after_moves moves splits = fold after_move splits moves
-
--- each of the first new splits has an earlier key than each old one from a place on: the last of them has
--- an earlier key than the first of these
-abbrev pub AreApart : List Stored → ℕ → List Stored → ℕ → Type 0
-AreApart old from new upto =
-    (s t : Stored) → 0 < upto → slice_get new (upto - 1) ≡ Some s → slice_get old from ≡ Some t → s.key < t.key

@@ -1,5 +1,5 @@
 -- What the records of a shelf's log amount to: the live metrics, with where their series are stored.
-use Rattle.std.specs.Prelude.{◌≡◌, ◌≢◌, ◌↔◌, ℕ, ◌+◌, ◌*◌, ◌%◌, ◌≤◌, ◌==◌, ◌&&◌, nat_lt, not, if◌then◌else◌, Bool, List, [], ◌∷◌, ◌++◌, length, map, All, AllPairs, Contains, Option, None, Some, IsSome, IfSome}
+use Rattle.std.specs.Prelude.{◌≡◌, ◌≢◌, ◌↔◌, ℕ, ◌+◌, ◌%◌, ◌≤◌, ◌==◌, ◌&&◌, nat_lt, not, if◌then◌else◌, Bool, List, [], ◌∷◌, ◌++◌, map, All, AllPairs, Contains, Option, None, Some, IsSome}
 use Rattle.std.specs.List.{filter, flat_map, slice_get}
 use Rattle.archive_policy.specs.declared.definition.Definition.{Definition}
 use Rattle.archive_policy.specs.declared.kind.Kind.{Kind}

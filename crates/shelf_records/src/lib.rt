@@ -1,12 +1,16 @@
-//! What the records of a shelf's log amount to: where the splits of a metric are stored.
+//! What the records of a shelf's log amount to: the live metrics, and where their series are stored.
 #![tactic(auto)]
 
+mod changes;
+mod filed;
 mod laws;
 mod moves;
 mod series;
 
+pub use changes::changes_of_moves;
+pub use filed::Filed;
 pub use laws::change_moves_one_split;
-pub use moves::{Move, moves_between};
+pub use moves::Move;
 pub use series::{Series, Stored};
 
 #[cfg(test)]

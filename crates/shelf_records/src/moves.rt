@@ -1,7 +1,7 @@
 // The moves that lead from some splits to others.
-ghost use Rattle.std.specs.Prelude.{◌≡◌, ◌≤◌, ◌<◌, ◌+◌, ◌++◌, ◌⊎◌, IfOk, OnOk, None, Some, drop, length, map, option_to_list, slice_get, take};
-ghost use Rattle.std.specs.List.Sorted.{IsStrictlyIncreasing};
-ghost use Rattle.shelf_records.specs.Series.{AreApart, after_moves};
+ghost use Rattle.std.specs.Prelude.{◌≡◌, ◌≤◌, ◌<◌, ◌+◌, ◌-◌, ◌++◌, ◌⊎◌, ℕ, List, IfOk, IsSome, None, Some, drop, length, slice_get, take};
+ghost use Rattle.shelf_records.specs.declared.series.Stored.{Stored};
+ghost use Rattle.shelf_records.specs.Moves.{Leads, gone_of, merged, put_of};
 
 use crate::Stored;
 use gno_codec::Block;
@@ -15,63 +15,59 @@ pub struct Move {
     pub block: Option<Block>,
 }
 
-/// A step on the way through the splits of before and those of then: how many of each it goes past, and
-/// the move that it finds.
+/// A step on the way through the splits that go and those that are made: its move, and how many of each
+/// it goes past.
 #[derive(Clone, Copy)]
 struct Step {
-    moved: Option<Move>,
+    moved: Move,
     passed: usize,
     reached: usize,
 }
 
-/// The moves that lead from some splits to others, both by rising key: of the splits that are gone, and of
-/// all that there are then. One pass over both.
-pub fn moves_between(alloc: Global, old: &[Stored], new: &[Stored]) -> Result<Vec<Move>, Memory>
-    requires old { IsStrictlyIncreasing (map (λ s. s.key) old.now) }
-    requires new { IsStrictlyIncreasing (map (λ s. s.key) new.now) }
-    ensures { IfOk result (λ moves. after_moves moves.items old.now ≡ new.now) }
+/// The moves, by rising key, of the splits before the first place and from the other on, which are gone
+/// unless they are made again, and of those that are made. One pass over both.
+pub(crate) fn moves_to(
+    alloc: Global,
+    keys: &[Stamp],
+    first: usize,
+    until: usize,
+    made: &[Stored],
+) -> Result<Vec<Move>, Memory>
+    requires { (first ≤ until) × (until ≤ length keys.now) }
+    ensures { IfOk result (λ moves. moves.items ≡ merged (take first keys.now ++ drop until keys.now) made.now) }
 {
-    let mut moves = Vec::new(alloc);
+    let gone = first + (keys.len() - until);
+    let mut moves = Vec::with_capacity(alloc, gone.saturating_add(made.len()))?;
     let mut from = 0;
     let mut upto = 0;
-    while from < old.len() || upto < new.len() {
-        let step = step_at(old, from, new, upto);
-        push_move(&mut moves, step.moved)?;
+    while from < gone || upto < made.len() {
+        let step = step_at(gone_at(keys, first, until, from), split_at(made, upto));
+        moves.push(step.moved)?;
         from += step.passed;
         upto += step.reached;
     }
     Ok(moves)
 }
 
-/// Adds a move, if there is one.
-fn push_move(moves: &mut Vec<Move>, moved: Option<Move>) -> Result<(), Memory>
-    ensures { OnOk result (moves.new.items ≡ moves.old.items ++ option_to_list moved) }
+/// The key behind so many others of those before the first place and from the other on.
+fn gone_at(keys: &[Stamp], first: usize, until: usize, from: usize) -> Option<Stamp>
+    requires within { (first ≤ until) × (until ≤ length keys.now) }
+    requires below { from ≤ first + (length keys.now - until) }
+    ensures { result ≡ slice_get (take first keys.now ++ drop until keys.now) from }
 {
-    if let Some(found) = moved {
-        moves.push(found)?;
-    }
-    Ok(())
+    let place = if from < first {
+        from
+    } else {
+        until + (from - first)
+    };
+    key_at(keys, place)
 }
 
-/// The next step behind so many splits of before and so many of then.
-fn step_at(old: &[Stored], from: usize, new: &[Stored], upto: usize) -> Step
-    requires old { IsStrictlyIncreasing (map (λ s. s.key) old.now) }
-    requires new { IsStrictlyIncreasing (map (λ s. s.key) new.now) }
-    requires within { (from ≤ length old.now) × (upto ≤ length new.now) }
-    requires more { (from < length old.now) ⊎ (upto < length new.now) }
-    requires apart { AreApart old.now from new.now upto }
-    ensures within { (from + result.passed ≤ length old.now) × (upto + result.reached ≤ length new.now) }
-    ensures further { 0 < result.passed + result.reached }
-    ensures apart { AreApart old.now (from + result.passed) new.now (upto + result.reached) }
-    ensures leads { after_moves (option_to_list result.moved) (take upto new.now ++ drop from old.now)
-        ≡ take (upto + result.reached) new.now ++ drop (from + result.passed) old.now }
+/// The key at a place, if there is one.
+fn key_at(keys: &[Stamp], place: usize) -> Option<Stamp>
+    ensures { result ≡ slice_get keys.now place }
 {
-    match (split_at(old, from), split_at(new, upto)) {
-        (Some(before), Some(then)) => step_between(&before, &then),
-        (None, Some(then)) => put(&then),
-        (Some(before), None) => gone(&before),
-        (None, None) => unreachable!(),
-    }
+    keys.get(place).copied()
 }
 
 /// The split at a place, if there is one.
@@ -81,66 +77,56 @@ fn split_at(splits: &[Stored], place: usize) -> Option<Stored>
     splits.get(place).copied()
 }
 
-/// The next step, where the next split of before and the next one of then are these.
-fn step_between(before: &Stored, then: &Stored) -> Step
-    ensures same { before.now.key ≡ then.now.key → result ≡ record {
-      moved = Some (record { key = then.now.key; block = Some then.now.block });
-      passed = 1;
-      reached = 1;
-    } }
-    ensures new { then.now.key < before.now.key → result ≡ record {
-      moved = Some (record { key = then.now.key; block = Some then.now.block });
-      passed = 0;
-      reached = 1;
-    } }
-    ensures gone { before.now.key < then.now.key → result ≡ record {
-      moved = Some (record { key = before.now.key; block = None });
-      passed = 1;
-      reached = 0;
-    } }
+/// The next step, where these are the first key that goes and the first split that is made.
+fn step_at(gone: Option<Stamp>, made: Option<Stored>) -> Step
+    requires { IsSome gone ⊎ IsSome made }
+    ensures { (keys : List ℕ) (splits : List Stored) → slice_get keys 0 ≡ gone → slice_get splits 0 ≡ made
+        → Leads result keys splits }
 {
-    if before.key.nanos() < then.key.nanos() {
-        return gone(before);
+    match (gone, made) {
+        (Some(key), Some(split)) => step_between(key, &split),
+        (Some(key), None) => step_gone(key),
+        (None, Some(split)) => step_put(&split, 0),
+        (None, None) => unreachable!(),
     }
-    let mut step = put(then);
-    if before.key.nanos() == then.key.nanos() {
-        step.passed = 1;
-    }
-    step
 }
 
-/// A split that is gone.
-fn gone(before: &Stored) -> Step
-    ensures { result ≡ record {
-      moved = Some (record { key = before.now.key; block = None });
-      passed = 1;
-      reached = 0;
-    } }
+/// The next step, where there are both.
+fn step_between(key: Stamp, split: &Stored) -> Step
+    ensures gone { key < split.now.key → result ≡ record { moved = gone_of key; passed = 1; reached = 0 } }
+    ensures same { key ≡ split.now.key → result ≡ record { moved = put_of split.now; passed = 1; reached = 1 } }
+    ensures put { split.now.key < key → result ≡ record { moved = put_of split.now; passed = 0; reached = 1 } }
+{
+    if key.nanos() < split.key.nanos() {
+        return step_gone(key);
+    }
+    if key.nanos() == split.key.nanos() {
+        return step_put(split, 1);
+    }
+    step_put(split, 0)
+}
+
+/// Past a split that is gone.
+fn step_gone(key: Stamp) -> Step
+    ensures { result ≡ record { moved = gone_of key; passed = 1; reached = 0 } }
 {
     Step {
-        moved: Some(Move {
-            key: before.key,
-            block: None,
-        }),
+        moved: Move { key, block: None },
         passed: 1,
         reached: 0,
     }
 }
 
-/// A split that comes in.
-fn put(then: &Stored) -> Step
-    ensures { result ≡ record {
-      moved = Some (record { key = then.now.key; block = Some then.now.block });
-      passed = 0;
-      reached = 1;
-    } }
+/// Past a split that is made, and so many that go.
+fn step_put(split: &Stored, passed: usize) -> Step
+    ensures { result ≡ record { moved = put_of split.now; passed = passed; reached = 1 } }
 {
     Step {
-        moved: Some(Move {
-            key: then.key,
-            block: Some(then.block),
-        }),
-        passed: 0,
+        moved: Move {
+            key: split.key,
+            block: Some(split.block),
+        },
+        passed,
         reached: 1,
     }
 }

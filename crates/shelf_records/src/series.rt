@@ -1,8 +1,11 @@
 // Where the splits of one definition and kind are stored.
-ghost use Rattle.std.specs.Prelude.{◌≡◌, ◌≤◌, ◌<◌, ◌+◌, ◌++◌, ◌∷◌, ◌≢◌, true, false, All, IfOk, OnOk, OnErr, [], length, map, take, drop, slice_get, Some};
+ghost use Rattle.std.specs.Prelude.{◌≡◌, ◌≤◌, ◌<◌, ◌+◌, ◌++◌, ◌∷◌, ◌≢◌, true, false, not, All, IfOk, OnOk, OnErr, [], length, map, take, drop, slice_get, Some};
+ghost use Rattle.std.specs.List.{filter};
 ghost use Rattle.std.specs.List.Sorted.{IsStrictlyIncreasing};
-ghost use Rattle.shelf_records.specs.Series.{block_of, changed};
+ghost use Rattle.shelf_records.specs.Moves.{blocks_of_moves, gone_of, is_made, is_put, put_of};
+ghost use Rattle.shelf_records.specs.Series.{after_moves, block_of, changed};
 
+use crate::moves::{Move, moves_to};
 use gno_codec::Block;
 use gno_num::{Memory, Stamp};
 use std::alloc::Global;
@@ -65,8 +68,32 @@ impl Series {
         }
     }
 
+    /// The splits from the first place on, before the other, and those that are made behind them, with the
+    /// moves that lead there: of those that are made, and of those of before that are gone.
+    pub fn turned(
+        &self,
+        alloc: Global,
+        first: usize,
+        until: usize,
+        made: &[Stored],
+    ) -> Result<(Series, Vec<Move>), Memory>
+        requires within { (first ≤ until) × (until ≤ length self.now) }
+        requires rising { IsStrictlyIncreasing (map (λ s. s.key) (drop first (take until self.now) ++ made.now)) }
+        ensures series { IfOk result (λ turn. turn.0 ≡ drop first (take until self.now) ++ made.now) }
+        ensures leads { IfOk result (λ turn. after_moves turn.1.items self.now ≡ drop first (take until self.now) ++ made.now) }
+        ensures rising { IfOk result (λ turn. IsStrictlyIncreasing (map (λ m. m.key) turn.1.items)) }
+        ensures made { IfOk result (λ turn. filter is_put turn.1.items ≡ map put_of made.now) }
+        ensures gone { IfOk result (λ turn. filter (λ m. not (is_put m)) turn.1.items
+            ≡ map gone_of (filter (λ key. not (is_made made.now key)) (map (λ s. s.key) (take first self.now ++ drop until self.now)))) }
+        ensures blocks { IfOk result (λ turn. blocks_of_moves turn.1.items ≡ map (λ s. s.block) made.now) }
+    {
+        let moves = moves_to(alloc, &self.keys, first, until, made)?;
+        let series = self.replaced(alloc, first, until, made)?;
+        Ok((series, moves))
+    }
+
     /// The splits from the first place on, before the other, and these behind them.
-    pub fn replaced(
+    fn replaced(
         &self,
         alloc: Global,
         first: usize,

@@ -1,7 +1,7 @@
 // Splits of one minute, whose keys are multiples of 216,000 seconds.
 ghost use Rattle.std.specs.Prelude.{◌≡◌, ◌*◌, ◌^◌};
 
-use crate::{Move, Series, Stored, moves_between};
+use crate::{Move, Series, Stored};
 use gno_codec::Block;
 use gno_num::Stamp;
 use std::test::Fail;
@@ -46,22 +46,28 @@ fn splits_move_and_go(rt: HostRuntime) -> Result<(), Fail> {
 }
 
 #[test]
-fn splits_of_before_and_then(rt: HostRuntime) -> Result<(), Fail> {
-    let old = [stored(1, 0), stored(2, 1)];
-    let new = [stored(2, 2), stored(3, 0)];
-    let moves = moves_between(rt.alloc(), &old, &new)?;
+fn splits_turn(rt: HostRuntime) -> Result<(), Fail> {
+    let mut series = Series::new(rt.alloc());
+    series.change(key(1), Some(block(0)))?;
+    series.change(key(2), Some(block(1)))?;
+    series.change(key(3), Some(block(2)))?;
+    let made = [stored(3, 3), stored(4, 4)];
+    assert_eq!(rt; series.keys().len(), 3);
+    let (turned, moves) = series.turned(rt.alloc(), 1, 2, &made)?;
+    let keys = [key(2), key(3), key(4)];
+    assert_eq!(rt; turned.keys(), keys.as_slice());
     let wanted = [
         Move {
             key: key(1),
             block: None,
         },
         Move {
-            key: key(2),
-            block: Some(block(2)),
+            key: key(3),
+            block: Some(block(3)),
         },
         Move {
-            key: key(3),
-            block: Some(block(0)),
+            key: key(4),
+            block: Some(block(4)),
         },
     ];
     assert_eq!(rt; moves.as_slice(), wanted.as_slice());
