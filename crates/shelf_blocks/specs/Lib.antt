@@ -1,0 +1,6 @@
+pub mod BlockFaults
+pub mod Blocks
+pub mod Chunks
+pub mod Damage
+pub mod Pieces
+pub mod Turns
