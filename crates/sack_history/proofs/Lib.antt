@@ -1,0 +1,17 @@
+pub mod Acting
+pub mod Committed
+pub mod Doing
+pub mod Draining
+pub mod Followed
+pub mod Following
+pub mod Held
+pub mod Identified
+pub mod Keeping
+pub mod Living
+pub mod Numbers
+pub mod Ordered
+pub mod Posting
+pub mod Stating
+pub mod Ticketing
+pub mod Turning
+pub mod Walking

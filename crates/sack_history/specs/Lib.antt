@@ -1,0 +1,10 @@
+pub mod Answering
+pub mod Calls
+pub mod Entries
+pub mod Failing
+pub mod Holding
+pub mod Legal
+pub mod Lives
+pub mod Plain
+pub mod Scratch
+pub mod Turns
