@@ -1,0 +1,11 @@
+pub mod AgainLemmas
+pub mod AppendLemmas
+pub mod BodyLemmas
+pub mod DocumentLemmas
+pub mod FaultLemmas
+pub mod JsonLemmas
+pub mod ListLemmas
+pub mod MemberLemmas
+pub mod PlainLemmas
+pub mod RisingLemmas
+pub mod ShapeLemmas

@@ -1,0 +1,11 @@
+pub mod Body
+pub mod Documents
+pub mod Fault
+pub mod Lists
+pub mod Member
+pub mod Metric
+pub mod Policy
+pub mod Resource
+pub mod Rule
+pub mod Shape
+pub mod Texts

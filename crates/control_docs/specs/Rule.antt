@@ -1,0 +1,19 @@
+-- What the body of a rule asks for.
+use Rattle.std.specs.Prelude.{ℕ, List, Result, Ok, codes}
+use Rattle.policy_rules.specs.declared.rule.Rule.{Rule as A_Rule}
+use Rattle.serde_json.specs.Data.{Data}
+use Rattle.serde_json.specs.Find.{get}
+use Rattle.control_docs.specs.declared.fault.ControlBodyFault.{ControlBodyFault}
+use Rattle.control_docs.specs.declared.shape.Shape.TheVariants.{Rule}
+use Rattle.control_docs.specs.Body.{read_by}
+use Rattle.control_docs.specs.Fault.{◌>>=◌}
+use Rattle.control_docs.specs.Member.{name_at}
+
+-- the rule that is asked for: three names
+abbrev pub rule_in : Data → Result A_Rule ControlBodyFault
+rule_in d =
+    name_at (get (codes "name") d) >>= λ name. name_at (get (codes "metric_pattern") d) >>= λ pattern. name_at (get (codes "archive_policy_name") d) >>= λ policy. Ok (record { name = name; pattern = pattern; policy = policy })
+
+-- what the body of a rule reads as
+unfoldable pub rule_read : List ℕ → Result A_Rule ControlBodyFault
+rule_read body = read_by Rule rule_in body
