@@ -5,4 +5,5 @@ pub mod MakeLemmas
 pub mod PieceLemmas
 pub mod SeriesPlaces
 pub mod TurnLemmas
+pub mod TurnedLemmas
 pub mod Written

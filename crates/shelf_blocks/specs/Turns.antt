@@ -1,5 +1,5 @@
 -- A turn of series of splits.
-use Rattle.std.specs.Prelude.{◌≡◌, ℕ, ◌+◌, ◌%◌, ◌≤◌, List, [], ◌++◌, length, map, take, drop, slice_get, All, Option, Some, None, IfSome}
+use Rattle.std.specs.Prelude.{◌≡◌, ℕ, ◌+◌, ◌%◌, ◌≤◌, List, [], ◌∷◌, ◌++◌, length, map, take, drop, slice_get, All, Option, Some, None, IfSome, sum_by}
 use Rattle.std.specs.List.{AllZip, Contains}
 use Rattle.std.specs.List.Sorted.{IsStrictlyIncreasing}
 use Rattle.archive_policy.specs.declared.definition.Definition.{Definition}
@@ -10,7 +10,12 @@ use Rattle.series_model.specs.Stored.{split_span}
 use Rattle.bound_series.specs.Jobs.{PreparedView, points_for}
 use Rattle.split_update.specs.Update.{AreSplits, oldest_by, splits_after}
 use Rattle.shelf_records.specs.declared.series.Stored.{Stored}
+use Rattle.shelf_records.specs.declared.moves.Move.{Move}
+use Rattle.shelf_records.specs.Moves.{blocks_of_moves}
+use Rattle.shelf_records.specs.Series.{after_moves}
 use Rattle.shelf_records.specs.Shelved.{Kept, Shelved}
+use Rattle.block_slots.specs.declared.slots.Piece.{Piece}
+use Rattle.block_slots.specs.Slots.{FillsSlot}
 use Rattle.shelf_blocks.specs.declared.turn.Made.{Made}
 use Rattle.shelf_blocks.specs.Blocks.{HoldsSplit}
 
@@ -57,3 +62,47 @@ AreWithin size kept = All (λ s. s.block.at + s.block.len ≤ size) kept.splits
 abbrev pub IsDamagedSplitOf : List ℕ → Shelved → ℕ → Type 0
 IsDamagedSplitOf z m at =
     (kept : Kept) × (d : Definition) × Contains m.kept kept × (slice_get m.policy.definitions kept.definition ≡ Some d) × IsDamagedSplit z d.granularity kept.splits at
+
+-- What is made fits its series: the old splits that stay are some of it, and the new ones come behind them.
+pub record IsFitting (d : Definition) (stored : List Stored) (made : Made) : Type 0 where
+  pub order : made.kept.first ≤ made.kept.until
+  pub within : made.kept.until ≤ length stored
+  pub formed : AreSplits d.granularity made.splits.items
+  pub rising : IsStrictlyIncreasing (map (λ s. s.key) (drop made.kept.first (take made.kept.until stored)) ++ map (λ s. s.key) made.splits.items)
+
+-- that of the series at a place of a metric, and of all of them
+abbrev pub IsFittingAt : Shelved → ℕ → Made → Type 0
+IsFittingAt m place made =
+    (kept : Kept) (d : Definition) → slice_get m.kept place ≡ Some kept → slice_get m.policy.definitions kept.definition ≡ Some d → IsFitting d kept.splits made
+
+abbrev pub AreFitting : Shelved → List Made → Type 0
+AreFitting m all = (place : ℕ) (made : Made) → slice_get all place ≡ Some made → IsFittingAt m place made
+
+-- how many splits are made
+abbrev pub made_count : List Made → ℕ
+made_count all = sum_by (λ made. length made.splits.items) all
+
+-- What has become of one series: the splits that stay and the new ones behind them, the moves that lead there,
+-- and where the new ones stand once these pieces are written.
+pub record IsTurned (pieces : List Piece) (d : Definition) (stored : List Stored) (made : Made) (series : List Stored) (own : List Move) : Type 0 where
+  pub new : List Stored
+  pub series_is : series ≡ drop made.kept.first (take made.kept.until stored) ++ new
+  pub leads : after_moves own stored ≡ series
+  pub rising : IsStrictlyIncreasing (map (λ m. m.key) own)
+  pub blocks : blocks_of_moves own ≡ map (λ s. s.block) new
+  pub written : (z : List ℕ) → All (FillsSlot z) pieces → AllZip (HoldsSplit z d.granularity) new made.splits.items
+
+-- that of the series at a place of a metric
+abbrev pub IsTurnedAt : Shelved → List Piece → ℕ → Made → List Stored → List Move → Type 0
+IsTurnedAt m pieces place made series own =
+    (kept : Kept) (d : Definition) → slice_get m.kept place ≡ Some kept → slice_get m.policy.definitions kept.definition ≡ Some d → IsTurned pieces d kept.splits made series own
+
+-- that of all of them, side by side, from a place on
+abbrev pub AreTurned : Shelved → List Piece → ℕ → List Made → List (List Stored) → List (List Move) → Type 0
+AreTurned m pieces place [] [] [] = Unit {0}
+AreTurned m pieces place [] [] (own ∷ moves) = ⊥
+AreTurned m pieces place [] (s ∷ series) moves = ⊥
+AreTurned m pieces place (made ∷ all) [] moves = ⊥
+AreTurned m pieces place (made ∷ all) (s ∷ series) [] = ⊥
+AreTurned m pieces place (made ∷ all) (s ∷ series) (own ∷ moves) =
+    IsTurnedAt m pieces place made s own × AreTurned m pieces (place + 1) all series moves

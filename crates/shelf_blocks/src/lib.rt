@@ -7,6 +7,7 @@ mod pieces;
 mod raw;
 mod splits;
 mod turn;
+mod turned;
 
 pub use fault::BlockFault;
 pub use pieces::{add_split_pieces, chunks_for, raw_pieces};
