@@ -38,7 +38,7 @@ use Rattle.gno_time.specs.Text.{span_text_of}
 use Rattle.gno_time.proofs.SpanPrinted.{read-span_text}
 use Rattle.control_docs.specs.declared.shape.Shape.TheVariants as Shape
 use Rattle.control_docs.specs.Documents.{definition_value, kind_value, policy_value, rule_value}
-use Rattle.control_docs.specs.Member.{all_of, kind_of, may_be_named}
+use Rattle.control_docs.specs.Member.{all_of, value_kind, may_be_named}
 use Rattle.control_docs.specs.Policy.{policy_read, wanted_of}
 use Rattle.control_docs.specs.Rule.{rule_read}
 use Rattle.control_docs.specs.Shape.{items_fit}
@@ -205,7 +205,7 @@ definitions_fit (d ∷ ds) = definitions_fit ds
 abbrev as_shown : Definition → Wanted
 as_shown d = record { granularity = Some d.granularity; points = Some d.points; timespan = Some (d.granularity * d.points) }
 
-kinds_read : (kinds : List Kind) → all_of kind_of (items_of (map kind_value kinds)) ≡ Ok kinds
+kinds_read : (kinds : List Kind) → all_of value_kind (items_of (map kind_value kinds)) ≡ Ok kinds
 kinds_read [] = refl
 kinds_read (kind ∷ kinds) = rw (own_kind kind, kinds_read kinds) refl
 

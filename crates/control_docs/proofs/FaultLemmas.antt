@@ -15,10 +15,10 @@ use Rattle.serde_json.specs.Find.{as_str, as_u64, get}
 use Rattle.control_docs.specs.declared.fault.ControlBodyFault.{ControlBodyFault}
 use Rattle.control_docs.specs.declared.fault.ControlBodyFault.TheVariants.{BadBody, BadName, BadSpan, SpanRange, BadAggregation, Policy}
 use Rattle.control_docs.specs.declared.shape.Shape.TheVariants as Shape
-use Rattle.control_docs.specs.Body.{shaped, value_of}
+use Rattle.control_docs.specs.Body.{shaped, body_value}
 use Rattle.control_docs.specs.Fault.{◌>>=◌, found_or}
-use Rattle.control_docs.specs.Member.{all_of, items_at, kind_named, kind_of, may_be_name, name_at, name_in, name_of, span_at, span_of, span_of_seconds, told, with_first}
-use Rattle.control_docs.specs.Policy.{kinds_at, made, policy_in, policy_read, wanted_of, window_at}
+use Rattle.control_docs.specs.Member.{all_of, listed_items, kind_named, value_kind, may_be_name, required_name, text_name, value_name, span_or_none, value_span, span_of_seconds, told, with_first}
+use Rattle.control_docs.specs.Policy.{kinds_at, made, policy_asked, policy_read, wanted_of, window_at}
 use Rattle.control_docs.specs.Shape.{is_body}
 
 -- the fault is none of a policy
@@ -51,9 +51,9 @@ own_or : {A : Type 0} (fault : ControlBodyFault) (o : Option A) → IsOwn fault 
 own_or fault None h = h
 own_or fault (Some x) h = tt
 
-own_name : (value : Option Data) → HasOwnFault (name_at value)
+own_name : (value : Option Data) → HasOwnFault (required_name value)
 own_name value =
-    own_then (found_or BadName value) name_of (own_or BadName value bad_name) (λ d. own_then (found_or BadName (as_str d)) name_in (own_or BadName (as_str d) bad_name) (λ text. either (may_be_name text) text))
+    own_then (found_or BadName value) value_name (own_or BadName value bad_name) (λ d. own_then (found_or BadName (as_str d)) text_name (own_or BadName (as_str d) bad_name) (λ text. either (may_be_name text) text))
   where
     either : (v : Bool) (text : List ℕ) → HasOwnFault (cond v (Ok text) (Err BadName))
     either true text = tt
@@ -68,7 +68,7 @@ own_seconds : (o : Option ℕ) → HasOwnFault (span_of_seconds o)
 own_seconds None = bad_span
 own_seconds (Some seconds) = own_told (span_in_range (seconds * 10 ^ 9))
 
-own_span : (d : Data) → HasOwnFault (span_of d)
+own_span : (d : Data) → HasOwnFault (value_span d)
 own_span null = bad_span
 own_span (boolean b) = bad_span
 own_span (number n) = own_seconds (as_u64 n)
@@ -76,25 +76,25 @@ own_span (string text) = own_told (span_read text)
 own_span (array ds) = bad_span
 own_span (object ms) = bad_span
 
-own_span_at : (value : Option Data) → HasOwnFault (span_at value)
+own_span_at : (value : Option Data) → HasOwnFault (span_or_none value)
 own_span_at None = tt
-own_span_at (Some d) = own_then (span_of d) (λ span. Ok (Some span)) (own_span d) (λ span. tt)
+own_span_at (Some d) = own_then (value_span d) (λ span. Ok (Some span)) (own_span d) (λ span. tt)
 
 own_wanted : (d : Data) → HasOwnFault (wanted_of d)
 own_wanted d =
-    own_then (span_at (get (codes "granularity") d)) _ (own_span_at (get (codes "granularity") d)) (λ fine. own_then (span_at (get (codes "timespan") d)) _ (own_span_at (get (codes "timespan") d)) (λ whole. tt))
+    own_then (span_or_none (get (codes "granularity") d)) _ (own_span_at (get (codes "granularity") d)) (λ fine. own_then (span_or_none (get (codes "timespan") d)) _ (own_span_at (get (codes "timespan") d)) (λ whole. tt))
 
 own_items : {A : Type 0} (read : Data → Result A ControlBodyFault) → ((d : Data) → HasOwnFault (read d)) → (ds : Items) → HasOwnFault (all_of read ds)
 own_items read each no_items = tt
 own_items read each (item d ds) =
     own_then (read d) (λ x. all_of read ds >>= with_first x) (each d) (λ x. own_then (all_of read ds) (with_first x) (own_items read each ds) (λ xs. tt))
 
-own_kind : (d : Data) → HasOwnFault (kind_of d)
+own_kind : (d : Data) → HasOwnFault (value_kind d)
 own_kind d = own_or BadAggregation (option_and_then kind_named (as_str d)) bad_aggregation
 
 own_kinds : (value : Option Data) → HasOwnFault (kinds_at value)
 own_kinds None = tt
-own_kinds (Some d) = own_items kind_of own_kind (items_at (Some d))
+own_kinds (Some d) = own_items value_kind own_kind (listed_items (Some d))
 
 -- a fault of a policy is the first one of what is asked for
 abbrev pub TellsFirst : Result ArchivePolicy ControlBodyFault → Type 0
@@ -111,10 +111,10 @@ first_made name back_window wanted kinds (Some first) is fault e =
     let same : first ≡ fault = cc in
     (back_window, wanted, kinds, fault_first back_window wanted kinds fault (is ∙ ap Some same))
 
-first_in : (d : Data) → TellsFirst (policy_in d)
+first_in : (d : Data) → TellsFirst (policy_asked d)
 first_in d =
-    first_then (name_at (get (codes "name") d)) _ (own_name (get (codes "name") d)) (λ name.
-    first_then (all_of wanted_of (items_at (get (codes "definition") d))) _ (own_items wanted_of own_wanted (items_at (get (codes "definition") d))) (λ wanted.
+    first_then (required_name (get (codes "name") d)) _ (own_name (get (codes "name") d)) (λ name.
+    first_then (all_of wanted_of (listed_items (get (codes "definition") d))) _ (own_items wanted_of own_wanted (listed_items (get (codes "definition") d))) (λ wanted.
     first_then (kinds_at (get (codes "aggregation_methods") d)) _ (own_kinds (get (codes "aggregation_methods") d)) (λ kinds.
     first_made name (window_at (get (codes "back_window") d)) wanted kinds (first_fault (window_at (get (codes "back_window") d)) wanted kinds) refl)))
 
@@ -128,7 +128,7 @@ own_shaped d = either (is_body Shape.Policy d)
 pub faults_first : (body : List ℕ) → TellsFirst (policy_read body)
 unfolding policy_read
 faults_first body =
-    first_then (found_or BadBody (value_of body) >>= shaped Shape.Policy) policy_in (own_then (found_or BadBody (value_of body)) (shaped Shape.Policy) (own_or BadBody (value_of body) bad_body) own_shaped) first_in
+    first_then (found_or BadBody (body_value body) >>= shaped Shape.Policy) policy_asked (own_then (found_or BadBody (body_value body)) (shaped Shape.Policy) (own_or BadBody (body_value body) bad_body) own_shaped) first_in
 
 pub never_memory : (body : List ℕ) → policy_read body ≢ Err (Policy policies.Memory)
 never_memory body e =

@@ -14,7 +14,7 @@ use Rattle.archive_policy.specs.declared.kind.Kind.{Kind}
 use Rattle.archive_policy.specs.declared.kind.Kind.TheVariants.{Mean, Min, Max, Sum, Count, First, Last, Nunique, RateMean, RateMin, RateMax, RateSum, RateCount, RateFirst, RateLast, RateNunique}
 use Rattle.archive_policy.specs.Kinds.{all_kinds, kind_name}
 use Rattle.control_docs.specs.declared.fault.ControlBodyFault.TheVariants.{BadName}
-use Rattle.control_docs.specs.Member.{may_be_named, may_be_name, name_in, kind_named}
+use Rattle.control_docs.specs.Member.{may_be_named, may_be_name, text_name, kind_named}
 
 -- ---- names
 
@@ -54,13 +54,13 @@ may_be_name-IsName text h =
     both_true (le-leb _ _ h.some) (both_true (le-leb _ _ h.few)
     (list_all-from_AllPass may_be_named text (All-weaker IsNameByte (λ b. may_be_named b ≡ true) byte-passes text h.bytes)))
 
-pub name-there : (text : List ℕ) → IsName text → name_in text ≡ Ok text
+pub name-there : (text : List ℕ) → IsName text → text_name text ≡ Ok text
 name-there text h = rw (may_be_name-IsName text h) refl
 
-pub name-missing : (text : List ℕ) → ¬ IsName text → name_in text ≡ Err BadName
+pub name-missing : (text : List ℕ) → ¬ IsName text → text_name text ≡ Err BadName
 name-missing text n = by (may_be_name text) refl
   where
-    by : (v : Bool) → may_be_name text ≡ v → name_in text ≡ Err BadName
+    by : (v : Bool) → may_be_name text ≡ v → text_name text ≡ Err BadName
     by true e = absurd (n (IsName-may_be_name text e))
     by false e = rw e refl
 

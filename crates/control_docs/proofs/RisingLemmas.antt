@@ -15,10 +15,10 @@ use Rattle.serde_json.specs.Read.{number_of, of_items, of_json, of_members, max_
 use Rattle.control_docs.specs.declared.fault.ControlBodyFault.{ControlBodyFault}
 use Rattle.control_docs.specs.declared.fault.ControlBodyFault.TheVariants.{BadBody, BadName}
 use Rattle.control_docs.specs.declared.shape.Shape.TheVariants.{NamedMetrics}
-use Rattle.control_docs.specs.Body.{shaped, value_of}
+use Rattle.control_docs.specs.Body.{shaped, body_value}
 use Rattle.control_docs.specs.Fault.{◌>>=◌, found_or}
 use Rattle.control_docs.specs.Member.{may_be_name, name_or_none, with_first}
-use Rattle.control_docs.specs.Resource.{HaveRisingNames, NamedPolicy, metrics_in, metrics_read, named_policies, named_policy}
+use Rattle.control_docs.specs.Resource.{HaveRisingNames, NamedPolicy, metrics_asked, metrics_read, named_policies, named_policy}
 use Rattle.control_docs.specs.Shape.{is_body}
 
 -- the keys of members, in their order
@@ -97,8 +97,8 @@ object_rises (json.object js) ms e = by (of_members js no_members) refl e
     by (Some found) is e =
         let same : found ≡ ms = cc in members_rise js no_members ms tt (is ∙ ap Some same)
 
-value_rises : (body : List ℕ) (ms : Members) → value_of body ≡ Some (object ms) → HaveRisingKeys ms
-unfolding value_of
+value_rises : (body : List ℕ) (ms : Members) → body_value body ≡ Some (object ms) → HaveRisingKeys ms
+unfolding body_value
 value_rises body ms e = by (is_utf8 body) e
   where
     read_rises : (o : Option Json) → option_and_then of_json o ≡ Some (object ms) → HaveRisingKeys ms
@@ -139,9 +139,9 @@ names_are_keys (member k d ms) metrics e = by (named_policy k d) refl (named_pol
 
 pub metrics_rise : (body : List ℕ) (metrics : List NamedPolicy) → metrics_read body ≡ Ok metrics → HaveRisingNames metrics
 unfolding metrics_read
-metrics_rise body metrics e = by (value_of body) refl e
+metrics_rise body metrics e = by (body_value body) refl e
   where
-    of_value : (d : Data) → value_of body ≡ Some d → metrics_in d ≡ Ok metrics → HaveRisingNames metrics
+    of_value : (d : Data) → body_value body ≡ Some d → metrics_asked d ≡ Ok metrics → HaveRisingNames metrics
     of_value null is e = absurd cc
     of_value (boolean b) is e = absurd cc
     of_value (number n) is e = absurd cc
@@ -150,11 +150,11 @@ metrics_rise body metrics e = by (value_of body) refl e
     of_value (object ms) is e =
         subst (IsStrictlySortedBy (slice_cmp nat_cmp)) (sym (names_are_keys ms metrics e)) (value_rises body ms is)
 
-    shape : (v : Bool) (d : Data) → value_of body ≡ Some d → (cond v (Ok d) (Err BadBody) >>= metrics_in) ≡ Ok metrics → HaveRisingNames metrics
+    shape : (v : Bool) (d : Data) → body_value body ≡ Some d → (cond v (Ok d) (Err BadBody) >>= metrics_asked) ≡ Ok metrics → HaveRisingNames metrics
     shape true d is e = of_value d is e
     shape false d is e = absurd cc
 
-    by : (o : Option Data) → value_of body ≡ o → (found_or BadBody o >>= shaped NamedMetrics >>= metrics_in) ≡ Ok metrics → HaveRisingNames metrics
+    by : (o : Option Data) → body_value body ≡ o → (found_or BadBody o >>= shaped NamedMetrics >>= metrics_asked) ≡ Ok metrics → HaveRisingNames metrics
     by None is e = absurd cc
     by (Some d) is e = shape (is_body NamedMetrics d) d is e
 

@@ -18,8 +18,8 @@ use Rattle.control_docs.specs.declared.fault.ControlBodyFault.TheVariants.{BadNa
 use Rattle.control_docs.specs.Fault.{◌>>=◌, found_or, told_span}
 
 -- what stands at a key, where something does
-abbrev pub seen : Option (Bor Value) → Option Data
-seen value = option_map (λ (v : Bor Value). view v.now) value
+abbrev pub value_seen : Option (Bor Value) → Option Data
+value_seen value = option_map (λ (v : Bor Value). view v.now) value
 
 -- ---- names
 
@@ -32,21 +32,21 @@ abbrev pub may_be_name : List ℕ → Bool
 may_be_name text = nat_le 1 (length text) && (nat_le (length text) 255 && list_all may_be_named text)
 
 -- the text, if it is a name
-abbrev pub name_in : List ℕ → Result (List ℕ) ControlBodyFault
-name_in text = if may_be_name text then Ok text else Err BadName
+abbrev pub text_name : List ℕ → Result (List ℕ) ControlBodyFault
+text_name text = if may_be_name text then Ok text else Err BadName
 
 -- the text of a value, if it is a name
-abbrev pub name_of : Data → Result (List ℕ) ControlBodyFault
-name_of d = found_or BadName (as_str d) >>= name_in
+abbrev pub value_name : Data → Result (List ℕ) ControlBodyFault
+value_name d = found_or BadName (as_str d) >>= text_name
 
 -- a name that has to be there
-abbrev pub name_at : Option Data → Result (List ℕ) ControlBodyFault
-name_at value = found_or BadName value >>= name_of
+abbrev pub required_name : Option Data → Result (List ℕ) ControlBodyFault
+required_name value = found_or BadName value >>= value_name
 
 -- a name that may be absent
 abbrev pub name_or_none : Option Data → Result (Option (List ℕ)) ControlBodyFault
 name_or_none None = Ok None
-name_or_none (Some d) = name_of d >>= λ name. Ok (Some name)
+name_or_none (Some d) = value_name d >>= λ name. Ok (Some name)
 
 -- what stands there, null being nothing
 abbrev pub unless_null : Option Data → Option Data
@@ -65,16 +65,16 @@ is_given value = is_some_of (unless_null value)
 -- ---- identifiers and whole numbers
 
 -- the identifier that a text is in any of the forms of UUIDs, as a number
-abbrev pub id_in : List ℕ → Option ℕ
-id_in text = option_map (λ bytes. from_be_bytes w128 bytes) (parsed text)
+abbrev pub as_id : List ℕ → Option ℕ
+as_id text = option_map (λ bytes. from_be_bytes w128 bytes) (parsed text)
 
 -- the identifier that a value is
-abbrev pub id_of : Data → Option ℕ
-id_of d = option_and_then id_in (as_str d)
+abbrev pub value_id : Data → Option ℕ
+value_id d = option_and_then as_id (as_str d)
 
 -- the whole number that a value is
-abbrev pub whole_of : Data → Option ℕ
-whole_of d = option_and_then as_u64 (as_number d)
+abbrev pub value_whole : Data → Option ℕ
+value_whole d = option_and_then as_u64 (as_number d)
 
 -- ---- spans
 
@@ -89,18 +89,18 @@ span_of_seconds None = Err BadSpan
 span_of_seconds (Some seconds) = told (span_in_range (seconds * 10 ^ 9))
 
 -- a text of a span, or a whole number of seconds
-abbrev pub span_of : Data → Result ℕ ControlBodyFault
-span_of null = Err BadSpan
-span_of (boolean b) = Err BadSpan
-span_of (number n) = span_of_seconds (as_u64 n)
-span_of (string text) = told (span_read text)
-span_of (array ds) = Err BadSpan
-span_of (object ms) = Err BadSpan
+abbrev pub value_span : Data → Result ℕ ControlBodyFault
+value_span null = Err BadSpan
+value_span (boolean b) = Err BadSpan
+value_span (number n) = span_of_seconds (as_u64 n)
+value_span (string text) = told (span_read text)
+value_span (array ds) = Err BadSpan
+value_span (object ms) = Err BadSpan
 
 -- a span that may be absent
-abbrev pub span_at : Option Data → Result (Option ℕ) ControlBodyFault
-span_at None = Ok None
-span_at (Some d) = span_of d >>= λ span. Ok (Some span)
+abbrev pub span_or_none : Option Data → Result (Option ℕ) ControlBodyFault
+span_or_none None = Ok None
+span_or_none (Some d) = value_span d >>= λ span. Ok (Some span)
 
 -- ---- aggregation methods
 
@@ -109,8 +109,8 @@ abbrev pub kind_named : List ℕ → Option Kind
 kind_named name = find (λ kind. bytes_eq name (kind_name kind)) all_kinds
 
 -- the kind that a value names
-abbrev pub kind_of : Data → Result Kind ControlBodyFault
-kind_of d = found_or BadAggregation (option_and_then kind_named (as_str d))
+abbrev pub value_kind : Data → Result Kind ControlBodyFault
+value_kind d = found_or BadAggregation (option_and_then kind_named (as_str d))
 
 -- ---- lists
 
@@ -124,9 +124,9 @@ all_of read no_items = Ok []
 all_of read (item d ds) = read d >>= λ x. all_of read ds >>= with_first x
 
 -- the items of a list that stands there
-abbrev pub items_at : Option Data → Items
-items_at None = no_items
-items_at (Some d) = items_or_none (as_array d)
+abbrev pub listed_items : Option Data → Items
+listed_items None = no_items
+listed_items (Some d) = items_or_none (as_array d)
   where
     items_or_none : Option Items → Items
     items_or_none None = no_items

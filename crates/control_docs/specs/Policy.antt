@@ -13,13 +13,13 @@ use Rattle.control_docs.specs.declared.fault.ControlBodyFault.TheVariants.{Polic
 use Rattle.control_docs.specs.declared.shape.Shape.TheVariants.{Policy}
 use Rattle.control_docs.specs.Body.{read_by}
 use Rattle.control_docs.specs.Fault.{◌>>=◌}
-use Rattle.control_docs.specs.Member.{all_of, items_at, kind_of, name_at, span_at, whole_of}
+use Rattle.control_docs.specs.Member.{all_of, listed_items, value_kind, required_name, span_or_none, value_whole}
 
 -- what is given of a definition: its granularity, its points and its timespan, each of which may be
 -- absent
 abbrev pub wanted_of : Data → Result Wanted ControlBodyFault
 wanted_of d =
-    span_at (get (codes "granularity") d) >>= λ granularity. span_at (get (codes "timespan") d) >>= λ timespan. Ok (record { granularity = granularity; points = option_and_then whole_of (get (codes "points") d); timespan = timespan })
+    span_or_none (get (codes "granularity") d) >>= λ granularity. span_or_none (get (codes "timespan") d) >>= λ timespan. Ok (record { granularity = granularity; points = option_and_then value_whole (get (codes "points") d); timespan = timespan })
 
 -- the methods where none are given
 abbrev pub usual_kinds : List Kind
@@ -28,11 +28,11 @@ usual_kinds = Mean ∷ Min ∷ Max ∷ Sum ∷ Count ∷ []
 -- the methods: the usual ones, or those of a list
 abbrev pub kinds_at : Option Data → Result (List Kind) ControlBodyFault
 kinds_at None = Ok usual_kinds
-kinds_at (Some d) = all_of kind_of (items_at (Some d))
+kinds_at (Some d) = all_of value_kind (listed_items (Some d))
 
 -- the back window, 0 where none is given
 abbrev pub window_at : Option Data → ℕ
-window_at value = unwrap_or (option_and_then whole_of value) 0
+window_at value = unwrap_or (option_and_then value_whole value) 0
 
 -- the policy, or why there is none
 abbrev pub made : List ℕ → ℕ → List Wanted → List Kind → Option PolicyFault → Result ArchivePolicy ControlBodyFault
@@ -40,10 +40,10 @@ made name back_window wanted kinds (Some fault) = Err (No_Policy fault)
 made name back_window wanted kinds None = Ok (policy_of name back_window wanted kinds)
 
 -- the policy that is asked for, its members taken in their order
-abbrev pub policy_in : Data → Result ArchivePolicy ControlBodyFault
-policy_in d =
-    name_at (get (codes "name") d) >>= λ name. all_of wanted_of (items_at (get (codes "definition") d)) >>= λ wanted. kinds_at (get (codes "aggregation_methods") d) >>= λ kinds. made name (window_at (get (codes "back_window") d)) wanted kinds (first_fault (window_at (get (codes "back_window") d)) wanted kinds)
+abbrev pub policy_asked : Data → Result ArchivePolicy ControlBodyFault
+policy_asked d =
+    required_name (get (codes "name") d) >>= λ name. all_of wanted_of (listed_items (get (codes "definition") d)) >>= λ wanted. kinds_at (get (codes "aggregation_methods") d) >>= λ kinds. made name (window_at (get (codes "back_window") d)) wanted kinds (first_fault (window_at (get (codes "back_window") d)) wanted kinds)
 
 -- what the body of a policy reads as
 unfoldable pub policy_read : List ℕ → Result ArchivePolicy ControlBodyFault
-policy_read body = read_by Policy policy_in body
+policy_read body = read_by Policy policy_asked body

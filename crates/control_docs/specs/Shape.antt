@@ -5,21 +5,21 @@ use Rattle.serde_json.specs.Data.{Num, Data, null, boolean, number, string, arra
 use Rattle.serde_json.specs.Find.{as_u64, get}
 use Rattle.control_docs.specs.declared.shape.Shape.{Shape}
 use Rattle.control_docs.specs.declared.shape.Shape.TheVariants.{Plain, Whole, Id, IdOrNull, Plains, Definitions, Definition, Policy, Rule, Metric, Resource, NamedMetrics, NamedMetric}
-use Rattle.control_docs.specs.Member.{id_in, is_given}
+use Rattle.control_docs.specs.Member.{as_id, is_given}
 
 -- ---- the table of members
 
 -- the keys that are given in an object, each with what may stand there
-abbrev pub table : Shape → List (List ℕ × Shape)
-table Policy =
+abbrev pub member_table : Shape → List (List ℕ × Shape)
+member_table Policy =
     (codes "name", Plain) ∷ (codes "definition", Definitions) ∷ (codes "back_window", Whole) ∷ (codes "aggregation_methods", Plains) ∷ []
-table Definition = (codes "granularity", Plain) ∷ (codes "points", Whole) ∷ (codes "timespan", Plain) ∷ []
-table Rule = (codes "name", Plain) ∷ (codes "metric_pattern", Plain) ∷ (codes "archive_policy_name", Plain) ∷ []
-table Metric =
+member_table Definition = (codes "granularity", Plain) ∷ (codes "points", Whole) ∷ (codes "timespan", Plain) ∷ []
+member_table Rule = (codes "name", Plain) ∷ (codes "metric_pattern", Plain) ∷ (codes "archive_policy_name", Plain) ∷ []
+member_table Metric =
     (codes "archive_policy_name", Plain) ∷ (codes "name", Plain) ∷ (codes "unit", Plain) ∷ (codes "resource_id", IdOrNull) ∷ []
-table Resource = (codes "id", Id) ∷ []
-table NamedMetric = (codes "archive_policy_name", Plain) ∷ []
-table _ = []
+member_table Resource = (codes "id", Id) ∷ []
+member_table NamedMetric = (codes "archive_policy_name", Plain) ∷ []
+member_table _ = []
 
 -- what a table gives for a key
 abbrev pub given_in : List (List ℕ × Shape) → List ℕ → Option Shape
@@ -29,7 +29,7 @@ given_in (row ∷ rows) key = if bytes_eq key row.0 then Some row.1 else given_i
 -- what may stand at a key of an object; any key names a metric of a resource
 abbrev pub member_shape : Shape → List ℕ → Option Shape
 member_shape NamedMetrics key = Some NamedMetric
-member_shape shape key = given_in (table shape) key
+member_shape shape key = given_in (member_table shape) key
 
 -- the members that have to be there; a metric of a resource needs a name
 abbrev pub is_complete : Shape → Data → Bool
@@ -42,9 +42,9 @@ is_complete _ d = true
 
 -- ---- what else may stand at a place
 
-abbrev pub is_plain : Shape → Bool
-is_plain Plain = true
-is_plain _ = false
+abbrev pub takes_bool : Shape → Bool
+takes_bool Plain = true
+takes_bool _ = false
 
 abbrev pub takes_null : Shape → Bool
 takes_null Plain = true
@@ -59,8 +59,8 @@ takes_number _ n = false
 
 abbrev pub takes_text : Shape → List ℕ → Bool
 takes_text Plain text = true
-takes_text Id text = is_some (id_in text)
-takes_text IdOrNull text = is_some (id_in text)
+takes_text Id text = is_some (as_id text)
+takes_text IdOrNull text = is_some (as_id text)
 takes_text _ text = false
 
 -- what the items of a list are, where one may stand there
@@ -90,7 +90,7 @@ passes (Some shape) test = test shape
 abbrev mutual
   pub fits : Shape → Data → Bool
   fits shape null = takes_null shape
-  fits shape (boolean b) = is_plain shape
+  fits shape (boolean b) = takes_bool shape
   fits shape (number n) = takes_number shape n
   fits shape (string text) = takes_text shape text
   fits shape (array ds) = passes (item_shape shape) (λ inner. items_fit inner ds)

@@ -1,7 +1,7 @@
 // From the bytes of a body to its JSON value.
 ghost use Rattle.std.specs.Prelude.{◌≡◌, is_some};
 ghost use Rattle.serde_json.specs.View.{view};
-ghost use Rattle.control_docs.specs.Body.{value_of, value_read};
+ghost use Rattle.control_docs.specs.Body.{body_value, body_read};
 ghost use Rattle.control_docs.specs.Fault.{Gives, found_or};
 ghost use Rattle.control_docs.specs.Member.{is_given};
 ghost use Rattle.control_docs.specs.Shape.{is_complete};
@@ -16,7 +16,7 @@ use std::alloc::Global;
 
 /// The value of a body of this shape.
 pub fn value_in(alloc: Global, shape: Shape, body: &[u8]) -> Result<Value, ControlBodyFault>
-    ensures { Gives (λ v. view v) result (value_read shape body.now) }
+    ensures { Gives (λ v. view v) result (body_read shape body.now) }
 {
     let value = json_value(alloc, body)?;
     if fits(shape, &value) && is_complete(shape, &value) {
@@ -26,9 +26,9 @@ pub fn value_in(alloc: Global, shape: Shape, body: &[u8]) -> Result<Value, Contr
     }
 }
 
-#[tactic(auto, unfolding(crate::specs::Body::value_of))]
+#[tactic(auto, unfolding(crate::specs::Body::body_value))]
 fn json_value(alloc: Global, body: &[u8]) -> Result<Value, ControlBodyFault>
-    ensures { Gives (λ v. view v) result (found_or BadBody (value_of body.now)) }
+    ensures { Gives (λ v. view v) result (found_or BadBody (body_value body.now)) }
 {
     match Value::from_slice(alloc, body) {
         Ok(value) => Ok(value),

@@ -3,7 +3,7 @@ ghost use Rattle.std.specs.Prelude.{◌≡◌, ◌*◌, ◌^◌};
 ghost use Rattle.gno_time.specs.SpanReading.{span_in_range};
 ghost use Rattle.serde_json.specs.View.{items_view, view};
 ghost use Rattle.control_docs.specs.Fault.{Gives};
-ghost use Rattle.control_docs.specs.Member.{all_of, id_in, id_of, is_given, kind_named, kind_of, name_at, name_in, name_of, name_or_none, seen, span_at, span_of, told, unless_null, whole_of};
+ghost use Rattle.control_docs.specs.Member.{all_of, as_id, value_id, is_given, kind_named, value_kind, required_name, text_name, value_name, name_or_none, value_seen, span_or_none, value_span, told, unless_null, value_whole};
 
 use crate::ControlBodyFault;
 use archive_policy::{Kind, Name, NameFault};
@@ -14,8 +14,8 @@ use std::alloc::Global;
 use uuid::Uuid;
 
 /// The name that a text is.
-pub fn name_in(alloc: Global, text: &[u8]) -> Result<Name, ControlBodyFault>
-    ensures { Gives (λ name. name) result (name_in text.now) }
+pub fn text_name(alloc: Global, text: &[u8]) -> Result<Name, ControlBodyFault>
+    ensures { Gives (λ name. name) result (text_name text.now) }
 {
     match Name::of(alloc, text) {
         Ok(name) => Ok(name),
@@ -25,38 +25,38 @@ pub fn name_in(alloc: Global, text: &[u8]) -> Result<Name, ControlBodyFault>
 }
 
 /// The name that a value is.
-fn name_of(alloc: Global, value: &Value) -> Result<Name, ControlBodyFault>
-    ensures { Gives (λ name. name) result (name_of (view value.now)) }
+fn value_name(alloc: Global, value: &Value) -> Result<Name, ControlBodyFault>
+    ensures { Gives (λ name. name) result (value_name (view value.now)) }
 {
     match value.as_str() {
-        Some(text) => name_in(alloc, text.as_bytes()),
+        Some(text) => text_name(alloc, text.as_bytes()),
         None => Err(ControlBodyFault::BadName),
     }
 }
 
 /// A name that has to be there.
-pub fn name_at(alloc: Global, value: Option<&Value>) -> Result<Name, ControlBodyFault>
-    ensures { Gives (λ name. name) result (name_at (seen value.entry)) }
+pub fn required_name(alloc: Global, value: Option<&Value>) -> Result<Name, ControlBodyFault>
+    ensures { Gives (λ name. name) result (required_name (value_seen value.entry)) }
 {
     match value {
-        Some(value) => name_of(alloc, value),
+        Some(value) => value_name(alloc, value),
         None => Err(ControlBodyFault::BadName),
     }
 }
 
 /// A name that may be absent.
 pub fn name_or_none(alloc: Global, value: Option<&Value>) -> Result<Option<Name>, ControlBodyFault>
-    ensures { Gives (λ name. name) result (name_or_none (seen value.entry)) }
+    ensures { Gives (λ name. name) result (name_or_none (value_seen value.entry)) }
 {
     match value {
-        Some(value) => Ok(Some(name_of(alloc, value)?)),
+        Some(value) => Ok(Some(value_name(alloc, value)?)),
         None => Ok(None),
     }
 }
 
 /// What stands there, null being nothing.
 pub fn unless_null(value: Option<&Value>) -> Option<&Value>
-    ensures { seen result ≡ unless_null (seen value.entry) }
+    ensures { value_seen result ≡ unless_null (value_seen value.entry) }
 {
     match value {
         Some(Value::Null) => None,
@@ -65,8 +65,8 @@ pub fn unless_null(value: Option<&Value>) -> Option<&Value>
 }
 
 /// The identifier that a text is, in any of the forms of UUIDs.
-pub fn id_in(text: &[u8]) -> Option<u128>
-    ensures { result ≡ id_in text.now }
+pub fn as_id(text: &[u8]) -> Option<u128>
+    ensures { result ≡ as_id text.now }
 {
     match Uuid::try_parse_ascii(text) {
         Ok(id) => Some(id.as_u128()),
@@ -75,21 +75,21 @@ pub fn id_in(text: &[u8]) -> Option<u128>
 }
 
 /// The identifier that a value is.
-pub fn id_of(value: &Value) -> Option<u128>
-    ensures { result ≡ id_of (view value.now) }
+pub fn value_id(value: &Value) -> Option<u128>
+    ensures { result ≡ value_id (view value.now) }
 {
     match value.as_str() {
-        Some(text) => id_in(text.as_bytes()),
+        Some(text) => as_id(text.as_bytes()),
         None => None,
     }
 }
 
 /// A span that may be absent.
-pub fn span_at(value: Option<&Value>) -> Result<Option<Span>, ControlBodyFault>
-    ensures { Gives (λ span. span) result (span_at (seen value.entry)) }
+pub fn span_or_none(value: Option<&Value>) -> Result<Option<Span>, ControlBodyFault>
+    ensures { Gives (λ span. span) result (span_or_none (value_seen value.entry)) }
 {
     match value {
-        Some(value) => match span_of(value) {
+        Some(value) => match value_span(value) {
             Ok(span) => Ok(Some(span)),
             Err(fault) => Err(fault),
         },
@@ -98,8 +98,8 @@ pub fn span_at(value: Option<&Value>) -> Result<Option<Span>, ControlBodyFault>
 }
 
 /// The span that a value is.
-fn span_of(value: &Value) -> Result<Span, ControlBodyFault>
-    ensures { Gives (λ span. span) result (span_of (view value.now)) }
+fn value_span(value: &Value) -> Result<Span, ControlBodyFault>
+    ensures { Gives (λ span. span) result (value_span (view value.now)) }
 {
     match value {
         Value::String(text) => Ok(read_span(text.as_bytes())?),
@@ -122,8 +122,8 @@ fn span_of_seconds(seconds: u64) -> Result<Span, ControlBodyFault>
 }
 
 /// The kind that a value names.
-fn kind_of(value: &Value) -> Result<Kind, ControlBodyFault>
-    ensures { Gives (λ kind. kind) result (kind_of (view value.now)) }
+fn value_kind(value: &Value) -> Result<Kind, ControlBodyFault>
+    ensures { Gives (λ kind. kind) result (value_kind (view value.now)) }
 {
     match value.as_str() {
         Some(text) => kind_named(text.as_bytes()).ok_or(ControlBodyFault::BadAggregation),
@@ -139,11 +139,11 @@ fn kind_named(name: &[u8]) -> Option<Kind>
 
 /// The kinds that the items of a list name.
 pub fn kinds_of(alloc: Global, items: &[Value]) -> Result<Vec<Kind>, ControlBodyFault>
-    ensures { Gives (λ kinds. kinds.items) result (all_of kind_of (items_view items.now)) }
+    ensures { Gives (λ kinds. kinds.items) result (all_of value_kind (items_view items.now)) }
 {
     let mut kinds = Vec::with_capacity(alloc, items.len())?;
     for item in items {
-        kinds.push(kind_of(item)?)?;
+        kinds.push(value_kind(item)?)?;
     }
     Ok(kinds)
 }

@@ -3,11 +3,11 @@ ghost use Rattle.std.specs.Prelude.{◌≡◌, ◌≢◌, IfOk, IfErr, Ok, Err};
 ghost use Rattle.serde_json.specs.View.{view};
 ghost use Rattle.control_docs.specs.declared.fault.ControlBodyFault.TheVariants.{Memory};
 ghost use Rattle.control_docs.specs.Fault.{Gives};
-ghost use Rattle.control_docs.specs.Metric.{metric_in, metric_read};
+ghost use Rattle.control_docs.specs.Metric.{metric_asked, metric_read};
 
 use crate::ControlBodyFault;
 use crate::body::value_in;
-use crate::member::{id_of, name_or_none, unless_null};
+use crate::member::{name_or_none, unless_null, value_id};
 use crate::shape::Shape;
 use archive_policy::Name;
 use serde_json::Value;
@@ -31,17 +31,17 @@ pub fn read_metric(alloc: Global, body: &[u8]) -> Result<MetricBody, ControlBody
     ensures err { IfErr result (λ fault. fault ≢ Memory → metric_read body.now ≡ Err fault) }
 {
     let value = value_in(alloc, Shape::Metric, body)?;
-    metric_in(alloc, &value)
+    metric_asked(alloc, &value)
 }
 
-fn metric_in(alloc: Global, value: &Value) -> Result<MetricBody, ControlBodyFault>
-    ensures { Gives (λ metric. metric) result (metric_in (view value.now)) }
+fn metric_asked(alloc: Global, value: &Value) -> Result<MetricBody, ControlBodyFault>
+    ensures { Gives (λ metric. metric) result (metric_asked (view value.now)) }
 {
     let policy = name_or_none(alloc, unless_null(value.get("archive_policy_name")))?;
     let name = name_or_none(alloc, unless_null(value.get("name")))?;
     let unit = name_or_none(alloc, unless_null(value.get("unit")))?;
     let resource = match value.get("resource_id") {
-        Some(value) => id_of(value),
+        Some(value) => value_id(value),
         None => None,
     };
     Ok(MetricBody {

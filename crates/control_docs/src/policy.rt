@@ -3,13 +3,13 @@ ghost use Rattle.std.specs.Prelude.{◌≡◌, ◌≢◌, IfOk, IfErr, Ok, Err, 
 ghost use Rattle.serde_json.specs.View.{items_view, view};
 ghost use Rattle.control_docs.specs.declared.fault.ControlBodyFault.TheVariants.{Memory};
 ghost use Rattle.control_docs.specs.Fault.{Gives};
-ghost use Rattle.control_docs.specs.Member.{all_of, items_at, seen, whole_of};
-ghost use Rattle.control_docs.specs.Policy.{kinds_at, made, policy_in, policy_read, wanted_of, window_at};
+ghost use Rattle.control_docs.specs.Member.{all_of, listed_items, value_seen, value_whole};
+ghost use Rattle.control_docs.specs.Policy.{kinds_at, made, policy_asked, policy_read, wanted_of, window_at};
 ghost use Rattle.archive_policy.specs.Faults.{first_fault};
 
 use crate::ControlBodyFault;
 use crate::body::value_in;
-use crate::member::{kinds_of, name_at, span_at};
+use crate::member::{kinds_of, required_name, span_or_none};
 use crate::shape::Shape;
 use archive_policy::{Kind, Name, Policy, Wanted};
 use serde_json::Value;
@@ -25,13 +25,13 @@ pub fn read_policy(alloc: Global, body: &[u8]) -> Result<Policy, ControlBodyFaul
     ensures err { IfErr result (λ fault. fault ≢ Memory → policy_read body.now ≡ Err fault) }
 {
     let value = value_in(alloc, Shape::Policy, body)?;
-    policy_in(alloc, &value)
+    policy_asked(alloc, &value)
 }
 
-fn policy_in(alloc: Global, value: &Value) -> Result<Policy, ControlBodyFault>
-    ensures { Gives (λ policy. policy) result (policy_in (view value.now)) }
+fn policy_asked(alloc: Global, value: &Value) -> Result<Policy, ControlBodyFault>
+    ensures { Gives (λ policy. policy) result (policy_asked (view value.now)) }
 {
-    let name = name_at(alloc, value.get("name"))?;
+    let name = required_name(alloc, value.get("name"))?;
     let wanted = definitions_at(alloc, value.get("definition"))?;
     let kinds = kinds_at(alloc, value.get("aggregation_methods"))?;
     let back_window = window_at(value.get("back_window"));
@@ -54,7 +54,7 @@ fn made(
 /// What is given of each definition.
 fn definitions_at(alloc: Global, value: Option<&Value>) -> Result<Vec<Wanted>, ControlBodyFault>
     ensures { Gives (λ wanted. wanted.items) result
-        (all_of wanted_of (items_at (seen value.entry))) }
+        (all_of wanted_of (listed_items (value_seen value.entry))) }
 {
     match value {
         Some(Value::Array(items)) => wanted_in(alloc, items),
@@ -75,11 +75,11 @@ fn wanted_in(alloc: Global, items: &[Value]) -> Result<Vec<Wanted>, ControlBodyF
 fn wanted_of(value: &Value) -> Result<Wanted, ControlBodyFault>
     ensures { Gives (λ wanted. wanted) result (wanted_of (view value.now)) }
 {
-    let granularity = match span_at(value.get("granularity")) {
+    let granularity = match span_or_none(value.get("granularity")) {
         Ok(granularity) => granularity,
         Err(fault) => return Err(fault),
     };
-    match span_at(value.get("timespan")) {
+    match span_or_none(value.get("timespan")) {
         Ok(timespan) => Ok(Wanted {
             granularity,
             points: whole_at(value.get("points")),
@@ -91,7 +91,7 @@ fn wanted_of(value: &Value) -> Result<Wanted, ControlBodyFault>
 
 /// The methods, or the usual ones where none are given.
 fn kinds_at(alloc: Global, value: Option<&Value>) -> Result<Vec<Kind>, ControlBodyFault>
-    ensures { Gives (λ kinds. kinds.items) result (kinds_at (seen value.entry)) }
+    ensures { Gives (λ kinds. kinds.items) result (kinds_at (value_seen value.entry)) }
 {
     match value {
         None => Ok(Vec::from_slice(alloc, &USUAL_KINDS)?),
@@ -103,13 +103,13 @@ fn kinds_at(alloc: Global, value: Option<&Value>) -> Result<Vec<Kind>, ControlBo
 const USUAL_KINDS: [Kind; 5] = [Kind::Mean, Kind::Min, Kind::Max, Kind::Sum, Kind::Count];
 
 fn window_at(value: Option<&Value>) -> u64
-    ensures { result ≡ window_at (seen value.entry) }
+    ensures { result ≡ window_at (value_seen value.entry) }
 {
     whole_at(value).unwrap_or(0)
 }
 
 fn whole_at(value: Option<&Value>) -> Option<u64>
-    ensures { result ≡ option_and_then whole_of (seen value.entry) }
+    ensures { result ≡ option_and_then value_whole (value_seen value.entry) }
 {
     match value {
         Some(value) => value.as_u64(),

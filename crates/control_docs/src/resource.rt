@@ -3,11 +3,11 @@ ghost use Rattle.std.specs.Prelude.{◌≡◌, ◌≢◌, IfOk, IfErr, Ok, Err};
 ghost use Rattle.serde_json.specs.View.{members_view, view};
 ghost use Rattle.control_docs.specs.declared.fault.ControlBodyFault.TheVariants.{Memory};
 ghost use Rattle.control_docs.specs.Fault.{Gives};
-ghost use Rattle.control_docs.specs.Resource.{HaveRisingNames, metrics_in, metrics_read, named_policies, named_policy, resource_in, resource_read};
+ghost use Rattle.control_docs.specs.Resource.{HaveRisingNames, metrics_asked, metrics_read, named_policies, named_policy, resource_asked, resource_read};
 
 use crate::ControlBodyFault;
 use crate::body::value_in;
-use crate::member::{id_of, name_in, name_or_none};
+use crate::member::{name_or_none, text_name, value_id};
 use crate::shape::Shape;
 use archive_policy::Name;
 use serde_json::{Map, Value};
@@ -20,14 +20,14 @@ pub fn read_resource(alloc: Global, body: &[u8]) -> Result<u128, ControlBodyFaul
     ensures err { IfErr result (λ fault. fault ≢ Memory → resource_read body.now ≡ Err fault) }
 {
     let value = value_in(alloc, Shape::Resource, body)?;
-    resource_in(&value)
+    resource_asked(&value)
 }
 
-fn resource_in(value: &Value) -> Result<u128, ControlBodyFault>
-    ensures { Gives (λ id. id) result (resource_in (view value.now)) }
+fn resource_asked(value: &Value) -> Result<u128, ControlBodyFault>
+    ensures { Gives (λ id. id) result (resource_asked (view value.now)) }
 {
     match value.get("id") {
-        Some(value) => id_of(value).ok_or(ControlBodyFault::BadBody),
+        Some(value) => value_id(value).ok_or(ControlBodyFault::BadBody),
         None => Err(ControlBodyFault::BadBody),
     }
 }
@@ -44,11 +44,14 @@ pub fn read_metrics_of_resource(
     ensures rising { IfOk result (λ metrics. HaveRisingNames metrics.items) }
 {
     let value = value_in(alloc, Shape::NamedMetrics, body)?;
-    metrics_in(alloc, &value)
+    metrics_asked(alloc, &value)
 }
 
-fn metrics_in(alloc: Global, value: &Value) -> Result<Vec<(Name, Option<Name>)>, ControlBodyFault>
-    ensures { Gives (λ metrics. metrics.items) result (metrics_in (view value.now)) }
+fn metrics_asked(
+    alloc: Global,
+    value: &Value,
+) -> Result<Vec<(Name, Option<Name>)>, ControlBodyFault>
+    ensures { Gives (λ metrics. metrics.items) result (metrics_asked (view value.now)) }
 {
     match value.as_object() {
         Some(members) => named_policies(alloc, members),
@@ -77,7 +80,7 @@ fn named_policy(
 ) -> Result<(Name, Option<Name>), ControlBodyFault>
     ensures { Gives (λ metric. metric) result (named_policy key.now (view member.now)) }
 {
-    let name = name_in(alloc, key.as_bytes())?;
+    let name = text_name(alloc, key.as_bytes())?;
     let policy = name_or_none(alloc, member.get("archive_policy_name"))?;
     Ok((name, policy))
 }

@@ -3,11 +3,11 @@ ghost use Rattle.std.specs.Prelude.{◌≡◌, ◌≢◌, IfOk, IfErr, Ok, Err};
 ghost use Rattle.serde_json.specs.View.{view};
 ghost use Rattle.control_docs.specs.declared.fault.ControlBodyFault.TheVariants.{Memory};
 ghost use Rattle.control_docs.specs.Fault.{Gives};
-ghost use Rattle.control_docs.specs.Rule.{rule_in, rule_read};
+ghost use Rattle.control_docs.specs.Rule.{rule_asked, rule_read};
 
 use crate::ControlBodyFault;
 use crate::body::value_in;
-use crate::member::name_at;
+use crate::member::required_name;
 use crate::shape::Shape;
 use policy_rules::Rule;
 use serde_json::Value;
@@ -21,15 +21,15 @@ pub fn read_rule(alloc: Global, body: &[u8]) -> Result<Rule, ControlBodyFault>
     ensures err { IfErr result (λ fault. fault ≢ Memory → rule_read body.now ≡ Err fault) }
 {
     let value = value_in(alloc, Shape::Rule, body)?;
-    rule_in(alloc, &value)
+    rule_asked(alloc, &value)
 }
 
-fn rule_in(alloc: Global, value: &Value) -> Result<Rule, ControlBodyFault>
-    ensures { Gives (λ rule. rule) result (rule_in (view value.now)) }
+fn rule_asked(alloc: Global, value: &Value) -> Result<Rule, ControlBodyFault>
+    ensures { Gives (λ rule. rule) result (rule_asked (view value.now)) }
 {
-    let name = name_at(alloc, value.get("name"))?;
-    let pattern = name_at(alloc, value.get("metric_pattern"))?;
-    let policy = name_at(alloc, value.get("archive_policy_name"))?;
+    let name = required_name(alloc, value.get("name"))?;
+    let pattern = required_name(alloc, value.get("metric_pattern"))?;
+    let policy = required_name(alloc, value.get("archive_policy_name"))?;
     Ok(Rule {
         name,
         pattern,

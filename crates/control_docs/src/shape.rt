@@ -2,10 +2,10 @@
 ghost use Rattle.std.specs.Prelude.{◌≡◌, if◌then◌else◌, Some, None};
 ghost use Rattle.std.specs.Str.{bytes_eq};
 ghost use Rattle.serde_json.specs.View.{items_view, members_view, number_view, view};
-ghost use Rattle.control_docs.specs.Member.{id_in};
-ghost use Rattle.control_docs.specs.Shape.{fits, has_members, is_plain, item_shape, items_fit, member_shape, members_fit, takes_null, takes_number, takes_text};
+ghost use Rattle.control_docs.specs.Member.{as_id};
+ghost use Rattle.control_docs.specs.Shape.{fits, has_members, takes_bool, item_shape, items_fit, member_shape, members_fit, takes_null, takes_number, takes_text};
 
-use crate::member::id_in;
+use crate::member::as_id;
 use serde_json::{Map, Number, Value};
 
 /// What the table of bodies gives for a place.
@@ -41,7 +41,7 @@ pub fn fits(shape: Shape, value: &Value) -> bool
 {
     match value {
         Value::Null => takes_null(shape),
-        Value::Bool(_) => is_plain(shape),
+        Value::Bool(_) => takes_bool(shape),
         Value::Number(number) => takes_number(shape, number),
         Value::String(text) => takes_text(shape, text.as_str()),
         Value::Array(items) => match item_shape(shape) {
@@ -85,8 +85,8 @@ fn takes_null(shape: Shape) -> bool
     matches!(shape, Shape::Plain | Shape::IdOrNull)
 }
 
-fn is_plain(shape: Shape) -> bool
-    ensures { result ≡ is_plain shape }
+fn takes_bool(shape: Shape) -> bool
+    ensures { result ≡ takes_bool shape }
 {
     matches!(shape, Shape::Plain)
 }
@@ -106,7 +106,7 @@ fn takes_text(shape: Shape, text: &str) -> bool
 {
     match shape {
         Shape::Plain => true,
-        Shape::Id | Shape::IdOrNull => id_in(text.as_bytes()).is_some(),
+        Shape::Id | Shape::IdOrNull => as_id(text.as_bytes()).is_some(),
         _ => false,
     }
 }

@@ -8,4 +8,4 @@ unfolding metrics_read
 returns-clause-ok c = search rules
 
 pub returns-clause-rising : goal.returns-clause-rising
-returns-clause-rising c = metrics_found (λ v. v.items) c.args.body.now c.metrics_in.result (returns-clause-ok c)
+returns-clause-rising c = metrics_found (λ v. v.items) c.args.body.now c.metrics_asked.result (returns-clause-ok c)
