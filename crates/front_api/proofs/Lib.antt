@@ -1,0 +1,4 @@
+pub mod CallLemmas
+pub mod HistoryLemmas
+pub mod SortedTables
+mod TableLemmas

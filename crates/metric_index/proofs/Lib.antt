@@ -1,0 +1,14 @@
+mod Answering
+mod BeginLemmas
+mod CallFacts
+mod HoldLemmas
+mod IndexLemmas
+mod KeptLemmas
+mod LoadLemmas
+mod Logs
+mod Mounted
+mod PlaceLemmas
+mod ReadLemmas
+mod ReplyLemmas
+mod StandLemmas
+mod WriteMoments

@@ -1,0 +1,31 @@
+use Rattle.std.proofs.Common.{◌+◌, Err, Some, sym, subst}
+use Rattle.front_api.specs.Calls.{BeginsOn, IsBegun}
+use Rattle.front_api.proofs.CallLemmas.{begun_follows}
+use Rattle.front_api.specs.declared.history.IndexCounted.TheVariants as counted
+use Rattle.metric_index.specs.IndexView.{IndexView, StandsAfter, StandsFor}
+use Rattle.metric_index.proofs.IndexLemmas.{call_after, failed_after, view_of}
+use Rattle.metric_index.proofs.index.Index.begin_of.Goals as goal
+
+pub returns-in-Err-clause-stands : goal.returns-in-Err-clause-stands
+returns-in-Err-clause-stands g c first h stands =
+    let i = c.self.inside in
+    let p = c.args.policy.now in
+    let n = c.args.name.now in
+    let r = c.args.resource.now in
+    let k = c.saturating_add-self-inside.result in
+    let here = subst (StandsFor g.D.Disk first h) (sym c.self.view_is) stands in
+    let after = failed_after g.D.Disk g.met.D.Disk.came_tells g.met.D.Disk.reads g.met.D.Disk.only_now i.held i.sacks i.entries (λ m. Some (counted.Draw (m.counter + 1))) (BeginsOn p n r) c.take_book-taken.new.held c.in-Err.fault c.refusal_of.result k c.in-Err.ensures.err c.refusal_of.ensures c.saturating_add-self-inside.ensures first h here in
+    subst (λ (v : IndexView _). StandsAfter g.D.Disk first h (λ m. Some (counted.Draw (m.counter + 1))) v (view_of c.take_book-taken.new.held i.sacks k) (λ own. IsBegun p n r first h own (Err c.refusal_of.result))) c.self.view_is after
+
+pub returns-clause-stands : goal.returns-clause-stands
+returns-clause-stands g c first h stands =
+    let i = c.self.inside in
+    let p = c.args.policy.now in
+    let n = c.args.name.now in
+    let r = c.args.resource.now in
+    let k = c.entries_after-self-inside.result in
+    let call = c.begin-result in
+    let here = subst (StandsFor g.D.Disk first h) (sym c.self.view_is) stands in
+    let after = call_after g.D.Disk g.met.D.Disk.came_tells g.met.D.Disk.reads g.met.D.Disk.only_now i.held i.sacks i.entries (BeginsOn p n r) (begun_follows p n r) (λ m. Some (counted.Draw (m.counter + 1))) c.in-Ok.taken.0 call.new.self call.result _
+    call.ensures.does call.ensures.state call.ensures.leaves call.ensures.durable call.ensures.cause c.in-Ok.ensures.of_sacks c.put_back.new.held c.put_back.ensures k c.in-Ok.taken.1 c.in-Ok.ensures.ok c.entries_after-self-inside.ensures first h here in
+    subst (λ (v : IndexView _). StandsAfter g.D.Disk first h (λ m. Some (counted.Draw (m.counter + 1))) v (view_of c.put_back.new.held i.sacks k) (λ own. IsBegun p n r first h own call.result)) c.self.view_is after

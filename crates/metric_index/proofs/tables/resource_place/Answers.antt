@@ -1,0 +1,12 @@
+use Rattle.std.proofs.Common.{◌≡◌, ℕ, refl, rules}
+use Rattle.std.specs.Cmp.{nat_cmp_total}
+use Rattle.std.specs.Ordering.{nat_cmp}
+use Rattle.metric_index.proofs.Answering.{answers_by}
+use Rattle.metric_index.proofs.PlaceLemmas.{place_found}
+use Rattle.metric_index.proofs.tables.resource_place.Goals as goal
+
+pub returns : goal.returns
+returns c =
+    let facts = c.binary_search_by.ensures in
+    place_found nat_cmp nat_cmp_total (λ (p : ℕ). p) c.args.id c.args.resources.now c.binary_search_by.result c.requires facts.bound
+    (facts.position (λ p. nat_cmp p c.args.id) (answers_by _ _ (λ f. f.0.now ≡ c.args.id) (λ f a r h called is. search rules) _ refl))

@@ -1,0 +1,13 @@
+pub mod BookCalls
+pub mod BookView
+pub mod Catalog
+pub mod IndexCalls
+pub mod IndexDamage
+pub mod IndexInside
+pub mod IndexLog
+pub mod Holding
+pub mod IndexView
+pub mod Inside
+pub mod Items
+pub mod Places
+pub mod Reading
