@@ -1,6 +1,7 @@
 mod Answering
 mod BeginLemmas
 mod CallFacts
+mod FaultLemmas
 mod HoldLemmas
 mod IndexLemmas
 mod KeptLemmas

@@ -1,6 +1,8 @@
 -- What contracts see of the index.
-use Rattle.std.specs.Prelude.{◌≡◌, ◌⊎◌, ◌+◌, ◌-◌, ◌^◌, min, ℕ, Bool, true, false, if◌then◌else◌, List, [], ◌∷◌, ◌++◌, length, Option, None, Some, is_some, ⊤}
+use Rattle.std.specs.Prelude.{◌≡◌, ◌⊎◌, ◌+◌, ◌-◌, ◌^◌, ◌≤◌, min, ℕ, Bool, true, false, if◌then◌else◌, List, [], ◌∷◌, ◌++◌, length, Option, None, Some, is_some, ⊤}
 use Rattle.gno_disk.specs.declared.disk.Disk.{Ghosts}
+use Rattle.gno_num.specs.Faults.{Rose}
+use Rattle.gno_num.specs.declared.faults.DiskFault.{DiskFault as Fault}
 use Rattle.gno_disk.specs.Phases.{MountsOrStill, Phase, phase}
 use Rattle.log_pair.specs.PairView.{OfTwo}
 use Rattle.front_api.specs.declared.history.IndexCounted.{IndexCounted}
@@ -31,6 +33,18 @@ LeavesNow g (d ∷ disks) (image ∷ images) = g.may_leave d image × LeavesNow 
 abbrev pub AllTell : {D : Type 0} → Ghosts D → List D → Type 0
 AllTell g [] = ⊤
 AllTell g (d ∷ disks) = (is_some (g.told d) ≡ true) × AllTell g disks
+
+-- each disk came from itself by at most so many changing calls
+abbrev pub AllCame : {D : Type 0} → Ghosts D → ℕ → List D → List D → Type 0
+AllCame g n [] [] = ⊤
+AllCame g n [] (d ∷ disks) = ⊥
+AllCame g n (d ∷ disks) [] = ⊥
+AllCame g n (old ∷ olds) (new ∷ news) = g.came n old new × AllCame g n olds news
+
+-- how often the disks have failed together
+abbrev pub sum_of_faults : {D : Type 0} → Ghosts D → List D → ℕ
+sum_of_faults g [] = 0
+sum_of_faults g (d ∷ disks) = g.faults d + sum_of_faults g disks
 
 -- a count that ends at the last value of its type
 abbrev pub capped : ℕ → ℕ
@@ -75,6 +89,13 @@ pub record StandsAfter {D : Type 0} (g : Ghosts D) (first : Maps) (h : List Inde
   pub mid : List IndexEntry
   pub mid_is : (mid ≡ h) ⊎ ((kept : Bool) × (mid ≡ h ++ Reopened kept ∷ []))
   pub moments : MountsOrStill g (index_phases old.disks new.disks) (OfTwo (AreOldOrWith old.sacks (state_of first mid).maps (written (state_of first mid).maps)))
+
+-- A fault of a disk in a call: its counts are of both disks, from when the call began, or when its mounting ended, to
+-- the call's end.
+pub record IsFaultOf {D : Type 0} (g : Ghosts D) (olds news : List D) (f : Fault) : Type 0 where
+  pub before : capped (sum_of_faults g olds) ≤ f.before
+  pub after : f.after ≡ capped (sum_of_faults g news)
+  pub rose : Rose f.before f.after
 
 -- how many entries a call adds that mounted the index, or found it mounted
 abbrev pub entries_of : Bool → ℕ

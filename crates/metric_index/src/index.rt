@@ -10,11 +10,11 @@ ghost use Rattle.front_api.specs.Calls.{AddsTo, AppliesTo, BeginsOn, IsAdded, Is
 ghost use Rattle.front_api.specs.Maps.{Maps, new_maps};
 ghost use Rattle.front_api.specs.declared.history.IndexCounted.TheVariants as counted;
 ghost use Rattle.front_api.specs.declared.history.IndexEntry.{IndexEntry};
-ghost use Rattle.metric_index.specs.BookCalls.{entry_by, written_by};
+ghost use Rattle.metric_index.specs.BookCalls.{MatchDisk, entry_by, written_by};
 ghost use Rattle.metric_index.specs.IndexCalls.{BeginsBy, IsAddMetric, IsBegunBy};
 ghost use Rattle.metric_index.specs.IndexDamage.{HoldsNoIndex, IsDamagedIndex};
 ghost use Rattle.metric_index.specs.IndexLog.{HoldsIndex, index_place};
-ghost use Rattle.metric_index.specs.IndexView.{OfDisks, StandsAfter, StandsFor, capped, entries_of};
+ghost use Rattle.metric_index.specs.IndexView.{AllCame, IsFaultOf, OfDisks, StandsAfter, StandsFor, capped, entries_of};
 
 use crate::book::Book;
 use crate::holding::{Held, put_back, take_book};
@@ -139,6 +139,8 @@ impl<D: Disk> Index<D> {
 
         // Where its disks tell their bytes: what it adds to its history, and what it stands for then.
         ensures stands { (first : Maps) (h : List IndexEntry) → StandsFor D.Disk first h self.old → StandsAfter D.Disk first h (λ m. written_by command.now) self.old self.new (λ own. IsApplied command.now first h own result) }
+        ensures cause { IfErr result (λ e. MatchDisk e (IsFaultOf D.Disk self.old.disks self.new.disks) ⊤) }
+        ensures came { AllCame D.Disk 6 self.old.disks self.new.disks }
     {
         let taken = take_book(self.alloc, &mut self.held, self.sacks);
         let (mut book, anew) = match taken {
@@ -160,6 +162,8 @@ impl<D: Disk> Index<D> {
         requires { IsAddMetric command.now }
         ensures whole { IfSome self.old.maps (λ m. BeginsBy command.now m (entry_by (Some (counted.Draw (m.counter + 1))) result ∷ []) result) }
         ensures stands { (first : Maps) (h : List IndexEntry) → StandsFor D.Disk first h self.old → StandsAfter D.Disk first h (λ m. Some (counted.Draw (m.counter + 1))) self.old self.new (λ own. IsBegunBy command.now first h own result) }
+        ensures cause { IfErr result (λ e. MatchDisk e (IsFaultOf D.Disk self.old.disks self.new.disks) ⊤) }
+        ensures came { AllCame D.Disk 6 self.old.disks self.new.disks }
     {
         match command {
             Command::AddMetric {
@@ -181,6 +185,8 @@ impl<D: Disk> Index<D> {
     ) -> Result<(MetricId, Policy), ControlFault>
         ensures whole { IfSome self.old.maps (λ m. BeginsOn policy.now name.now resource.now m (entry_by (Some (counted.Draw (m.counter + 1))) result ∷ []) result) }
         ensures stands { (first : Maps) (h : List IndexEntry) → StandsFor D.Disk first h self.old → StandsAfter D.Disk first h (λ m. Some (counted.Draw (m.counter + 1))) self.old self.new (λ own. IsBegun policy.now name.now resource.now first h own result) }
+        ensures cause { IfErr result (λ e. MatchDisk e (IsFaultOf D.Disk self.old.disks self.new.disks) ⊤) }
+        ensures came { AllCame D.Disk 6 self.old.disks self.new.disks }
     {
         let taken = take_book(self.alloc, &mut self.held, self.sacks);
         let (mut book, anew) = match taken {
@@ -201,6 +207,8 @@ impl<D: Disk> Index<D> {
         requires { IsSome doc.now.resource → IsSome doc.now.name }
         ensures whole { IfSome self.old.maps (λ m. AddsTo doc.now m (entry_by (Some (counted.Add doc.now)) result ∷ []) result) }
         ensures stands { (first : Maps) (h : List IndexEntry) → StandsFor D.Disk first h self.old → StandsAfter D.Disk first h (λ m. Some (counted.Add doc.now)) self.old self.new (λ own. IsAdded doc.now first h own result) }
+        ensures cause { IfErr result (λ e. MatchDisk e (IsFaultOf D.Disk self.old.disks self.new.disks) ⊤) }
+        ensures came { AllCame D.Disk 6 self.old.disks self.new.disks }
     {
         let taken = take_book(self.alloc, &mut self.held, self.sacks);
         let (mut book, anew) = match taken {

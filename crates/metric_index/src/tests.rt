@@ -136,7 +136,7 @@ fn identifiers_are_new(rt: HostRuntime) -> Result<(), Fail> {
     Ok(())
 }
 
-// Row d3.
+// A resource is dropped once it has no metric.
 #[test]
 fn resources_in_use_stay(rt: HostRuntime) -> Result<(), Fail> {
     let alloc = rt.alloc();
@@ -152,7 +152,7 @@ fn resources_in_use_stay(rt: HostRuntime) -> Result<(), Fail> {
     Ok(())
 }
 
-// Row 25, and of two rules the one whose pattern has more letters before its first star.
+// A policy in use stays, and of two rules the one whose pattern has more letters before its first star.
 #[test]
 fn policies_in_use_stay(rt: HostRuntime) -> Result<(), Fail> {
     let alloc = rt.alloc();

@@ -1,8 +1,13 @@
+use Rattle.std.specs.Bool.{⊤}
+use Rattle.std.specs.Result.{IfErr}
 use Rattle.std.proofs.Common.{◌+◌, Err, Some, sym, subst}
 use Rattle.front_api.specs.Calls.{BeginsOn, IsBegun}
 use Rattle.front_api.proofs.CallLemmas.{begun_follows}
 use Rattle.front_api.specs.declared.history.IndexCounted.TheVariants as counted
-use Rattle.metric_index.specs.IndexView.{IndexView, StandsAfter, StandsFor}
+use Rattle.metric_index.specs.BookCalls.{MatchDisk}
+use Rattle.metric_index.specs.Holding.{disks_in}
+use Rattle.metric_index.specs.IndexView.{AllCame, IndexView, IsFaultOf, StandsAfter, StandsFor}
+use Rattle.metric_index.proofs.FaultLemmas.{call_came, call_cause}
 use Rattle.metric_index.proofs.IndexLemmas.{call_after, failed_after, view_of}
 use Rattle.metric_index.proofs.index.Index.begin_of.Goals as goal
 
@@ -29,3 +34,17 @@ returns-clause-stands g c first h stands =
     let after = call_after g.D.Disk g.met.D.Disk.came_tells g.met.D.Disk.reads g.met.D.Disk.only_now i.held i.sacks i.entries (BeginsOn p n r) (begun_follows p n r) (λ m. Some (counted.Draw (m.counter + 1))) c.in-Ok.taken.0 call.new.self call.result _
     call.ensures.does call.ensures.state call.ensures.leaves call.ensures.durable call.ensures.cause c.in-Ok.ensures.of_sacks c.put_back.new.held c.put_back.ensures k c.in-Ok.taken.1 c.in-Ok.ensures.ok c.entries_after-self-inside.ensures first h here in
     subst (λ (v : IndexView _). StandsAfter g.D.Disk first h (λ m. Some (counted.Draw (m.counter + 1))) v (view_of c.put_back.new.held i.sacks k) (λ own. IsBegun p n r first h own call.result)) c.self.view_is after
+
+pub returns-clause-came : goal.returns-clause-came
+returns-clause-came g c =
+    let i = c.self.inside in
+    let call = c.begin-result in
+    subst (λ (v : IndexView _). AllCame g.D.Disk 6 v.disks (disks_in c.put_back.new.held)) c.self.view_is
+    (call_came g.D.Disk g.met.D.Disk.came_then g.met.D.Disk.came_more g.met.D.Disk.came_later i.sacks i.held c.put_back.new.held c.in-Ok.taken.0 call.new.self c.in-Ok.taken.1 c.in-Ok.ensures.ok c.put_back.ensures call.ensures.leaves.came_first call.ensures.leaves.came_second)
+
+pub returns-clause-cause : goal.returns-clause-cause
+returns-clause-cause g c =
+    let i = c.self.inside in
+    let call = c.begin-result in
+    subst (λ (v : IndexView _). IfErr call.result (λ e. MatchDisk e (IsFaultOf g.D.Disk v.disks (disks_in c.put_back.new.held)) ⊤)) c.self.view_is
+    (call_cause g.D.Disk g.met.D.Disk.came_then g.met.D.Disk.came_more g.met.D.Disk.came_later i.sacks i.held c.put_back.new.held c.in-Ok.taken.0 call.new.self c.in-Ok.taken.1 c.in-Ok.ensures.ok c.put_back.ensures call.result _ call.ensures.cause)
