@@ -1,6 +1,8 @@
 pub mod Chunks
+pub mod Committed
 pub mod Filled
 pub mod Held
+pub mod Linking
 pub mod MakeLemmas
 pub mod PieceLemmas
 pub mod SeriesPlaces

@@ -23,7 +23,7 @@ pub get_right : {X : Type 0} (xs ys : List X) (k : ℕ) → slice_get (xs ++ ys)
 get_right [] ys k = (let e : 0 + k ≡ k = omega arith in ap (slice_get ys) e)
 get_right (x ∷ xs) ys k = (let e : length (x ∷ xs) + k ≡ suc (length xs + k) = omega arith in ap (slice_get (x ∷ xs ++ ys)) e) ∙ get_right xs ys k
 
-get_mapped : {X Y : Type 0} (f : X → Y) (xs : List X) (k : ℕ) (x : X) → slice_get xs k ≡ Some x → slice_get (map f xs) k ≡ Some (f x)
+pub get_mapped : {X Y : Type 0} (f : X → Y) (xs : List X) (k : ℕ) (x : X) → slice_get xs k ≡ Some x → slice_get (map f xs) k ≡ Some (f x)
 get_mapped f [] k x is = absurd (none-some x is)
 get_mapped f (y ∷ xs) zero x is = ap Some (ap f (same_Some y x is))
 get_mapped f (y ∷ xs) (suc k) x is = get_mapped f xs k x is

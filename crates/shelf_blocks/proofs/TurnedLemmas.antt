@@ -26,7 +26,7 @@ use Rattle.shelf_blocks.proofs.Held.{all_back, all_front}
 use Rattle.shelf_blocks.proofs.SeriesPlaces.{get_within, series_at}
 use Rattle.shelf_blocks.proofs.Written.{splits_written}
 
-length-none : (kinds : List Kind) (e : ℕ) (ds : List Definition) → length (none_kept kinds e ds) ≡ length ds * length kinds
+pub length-none : (kinds : List Kind) (e : ℕ) (ds : List Definition) → length (none_kept kinds e ds) ≡ length ds * length kinds
 length-none kinds e [] = omega arith
 length-none kinds e (d ∷ ds) =
     omega (arith, length-append (map (λ kind. let k : Kept = record { definition = e; kind = kind; splits = [] } in k) kinds) (none_kept kinds (e + 1) ds), length-map kinds (λ kind. let k : Kept = record { definition = e; kind = kind; splits = [] } in k), length-none kinds (e + 1) ds, suc-mul (length ds) (length kinds))

@@ -3,6 +3,7 @@
 #![tactic(auto)]
 
 mod fault;
+mod laws;
 mod pieces;
 mod raw;
 mod splits;
@@ -10,6 +11,7 @@ mod turn;
 mod turned;
 
 pub use fault::BlockFault;
+pub use laws::{spared_metrics_are_held, written_series_is_held, written_turn_is_held};
 pub use pieces::{add_split_pieces, chunks_for, raw_pieces};
 pub use raw::read_series;
 pub use splits::{chunk_piece, read_split_in, split_piece};
