@@ -68,7 +68,7 @@ above_both : (x : ℕ) (xs ys : List ℕ) → Above x xs → Above x ys → Abov
 above_both x [] ys a b = b
 above_both x (w ∷ xs) ys a b = (a.0, above_both x xs ys a.1 b)
 
-rises_both : (low : ℕ) (xs ys : List ℕ) → Rises xs → All (λ x. x < low) xs → Rises ys → All (λ y. low ≤ y) ys → Rises (xs ++ ys)
+pub rises_both : (low : ℕ) (xs ys : List ℕ) → Rises xs → All (λ x. x < low) xs → Rises ys → All (λ y. low ≤ y) ys → Rises (xs ++ ys)
 rises_both low [] ys r below s above = s
 rises_both low (x ∷ xs) ys r below s above =
     (above_both x xs ys r.0 (above_least x low ys (All-head (λ z. z < low) x xs below) above), rises_both low xs ys r.1 (All-tail (λ z. z < low) x xs below) s above)

@@ -31,6 +31,12 @@ keys_stored [] blocks same = refl
 keys_stored (k ∷ keys) [] same = absurd (omega (arith, same))
 keys_stored (k ∷ keys) (b ∷ blocks) same = ap (λ l. k ∷ l) (keys_stored keys blocks (omega (arith, same)))
 
+pub blocks_stored : (keys : List ℕ) (blocks : List Block) → length keys ≡ length blocks → map (λ (s : Stored). s.block) (stored_at keys blocks) ≡ blocks
+blocks_stored [] [] same = refl
+blocks_stored [] (b ∷ blocks) same = absurd (omega (arith, same))
+blocks_stored (k ∷ keys) [] same = absurd (omega (arith, same))
+blocks_stored (k ∷ keys) (b ∷ blocks) same = ap (λ l. b ∷ l) (blocks_stored keys blocks (omega (arith, same)))
+
 pub length-stored : (keys : List ℕ) (blocks : List Block) → length keys ≡ length blocks → length (stored_at keys blocks) ≡ length keys
 length-stored keys blocks same = sym (length-map (stored_at keys blocks) key_of) ∙ ap length (keys_stored keys blocks same)
 
@@ -133,7 +139,7 @@ pub above_all : (k : ℕ) (xs : List ℕ) → Above k xs → All (λ x. k < x) x
 above_all k [] above = All-nil (λ x. k < x)
 above_all k (x ∷ xs) above = All-cons (λ y. k < y) x xs above.0 (above_all k xs above.1)
 
-all_above : (k : ℕ) (xs : List ℕ) → All (λ x. k < x) xs → Above k xs
+pub all_above : (k : ℕ) (xs : List ℕ) → All (λ x. k < x) xs → Above k xs
 all_above k [] all = tt
 all_above k (x ∷ xs) all = (All-head (λ y. k < y) x xs all, all_above k xs (All-tail (λ y. k < y) x xs all))
 

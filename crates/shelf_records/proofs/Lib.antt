@@ -1,6 +1,11 @@
 mod Changing
 mod First
+mod Following
+mod Freed
+mod Holding
 mod Keys
 mod Merging
+mod Metrics
 mod Moving
 mod Places
+mod Taking

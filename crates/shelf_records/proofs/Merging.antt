@@ -263,7 +263,7 @@ pub keys-append : (xs ys : List Stored) → keys_of (xs ++ ys) ≡ keys_of xs ++
 keys-append xs ys = map-append key_of xs ys
 
 -- one key more between others
-between : (xs : List ℕ) (k : ℕ) (ys : List ℕ) → Rises (xs ++ ys) → All (λ x. x < k) xs → Above k ys → Rises ((xs ++ k ∷ []) ++ ys)
+pub between : (xs : List ℕ) (k : ℕ) (ys : List ℕ) → Rises (xs ++ ys) → All (λ x. x < k) xs → Above k ys → Rises ((xs ++ k ∷ []) ++ ys)
 between [] k ys rises before behind = (behind, rises)
 between (x ∷ xs) k ys rises before behind =
     (low xs rises.0, between xs k ys rises.1 (All-tail (λ y. y < k) x xs before) behind)

@@ -1,14 +1,14 @@
 // A live metric in the book.
-ghost use Rattle.std.specs.Prelude.{◌≡◌, ◌≤◌, ◌<◌, ◌*◌, [], All, IfOk, OnOk, IsSomeAnd, length, position, slice_get, ◌+◌, ◌==◌};
+ghost use Rattle.std.specs.Prelude.{◌≡◌, ◌≤◌, ◌<◌, ◌*◌, [], ◌∷◌, All, IfOk, IfSome, OnOk, IsSomeAnd, length, map, position, slice_get, ◌+◌, ◌==◌};
 ghost use Rattle.archive_policy.specs.Kinds.{kind_index};
 ghost use Rattle.archive_policy.specs.Policies.{AreDefinitions, AreKinds};
 ghost use Rattle.shelf_records.specs.Filed.{IsFiled, is_series_of, place_in, splits_of};
 ghost use Rattle.shelf_records.specs.Series.{block_of};
-ghost use Rattle.shelf_records.specs.Shelved.{registered};
+ghost use Rattle.shelf_records.specs.Shelved.{blocks_of_metric, committed, kept_after, registered};
 
 use crate::Series;
 use archive_policy::{Kind, Policy};
-use gno_codec::Block;
+use gno_codec::{Block, Change, CommitItem};
 use gno_num::{List, Memory, Stamp};
 use series_model::{Measure, MetricId};
 use std::alloc::Global;
@@ -107,6 +107,24 @@ impl Filed {
         &self.kept[place]
     }
 
+    /// How many series there are.
+    pub fn count(&self) -> usize
+        ensures { result ≡ length self.now.kept }
+    {
+        self.kept.len()
+    }
+
+    /// How many blocks the metric has, unless they are too many to be counted.
+    pub(crate) fn block_count(&self) -> Option<u64>
+        ensures { IfSome result (λ count. count ≡ length (blocks_of_metric self.now)) }
+    {
+        let mut count = self.chunks().len() as u64;
+        for place in 0..self.count() {
+            count = count.checked_add(self.series(place).blocks().len() as u64)?;
+        }
+        Some(count)
+    }
+
     /// The place of the series of a definition and kind, if the policy has both.
     pub fn place_of(&self, definition: u8, kind: Kind) -> Option<usize>
         ensures place { result ≡ place_in self.now.policy definition kind }
@@ -123,6 +141,43 @@ impl Filed {
             Some(place) => self.series(place).block_of(key),
             None => None,
         }
+    }
+
+    /// The metric after a commit, by its changes.
+    pub(crate) fn follow(&mut self, item: CommitItem) -> Result<(), Memory>
+        ensures { OnOk result (self.new ≡ committed item self.old) }
+    {
+        for change in item.changes.items() {
+            self.change(change)?;
+        }
+        self.done = item.done;
+        self.last = item.last;
+        self.anchor = item.anchor;
+        self.chunks = item.chunks;
+        Ok(())
+    }
+
+    /// The metric after a change of one of its splits.
+    fn change(&mut self, change: &Change) -> Result<(), Memory>
+        ensures { OnOk result (self.new ≡ record self.old { kept = map (kept_after (change.now ∷ [])) self.old.kept }) }
+    {
+        let Some(place) = self.place_of(change.definition, change.kind) else {
+            return Ok(());
+        };
+        self.kept[place].change(change.key, change.block)?;
+        Ok(())
+    }
+
+    /// The metric after a commit, with its series as they are then.
+    pub(crate) fn settle(&mut self, item: CommitItem, kept: Vec<Series>)
+        requires { kept.items ≡ map (λ k. k.splits) (map (kept_after item.changes) self.old.kept) }
+        ensures { self.new ≡ committed item self.old }
+    {
+        self.done = item.done;
+        self.last = item.last;
+        self.anchor = item.anchor;
+        self.chunks = item.chunks;
+        self.kept = kept;
     }
 }
 

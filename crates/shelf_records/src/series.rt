@@ -56,6 +56,13 @@ impl Series {
         self.keys.as_slice()
     }
 
+    /// Where the splits are, by rising key.
+    pub fn blocks(&self) -> &[Block]
+        ensures { result.now ≡ map (λ s. s.block) self.now }
+    {
+        self.blocks.as_slice()
+    }
+
     /// Where the split with this key is, if it is stored. It is looked for by halves.
     pub fn block_of(&self, key: Stamp) -> Option<Block>
         ensures { result ≡ block_of key self.now }
