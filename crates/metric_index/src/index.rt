@@ -1,10 +1,11 @@
 // The index.
-ghost use Rattle.std.specs.Prelude.{◌≡◌, ◌∷◌, [], ⊤, List, Some, IfSome, IfOk, IfErr, IsSome, ◌+◌, is_some, not, true};
+ghost use Rattle.std.specs.Prelude.{◌≡◌, ◌∷◌, [], ⊤, List, Some, IfSome, IfOk, IfErr, IsSome, ◌+◌, ◌<◌, ◌==◌, is_some, not, true};
 ghost use Rattle.gate_log.specs.LogView.{IsFault, MatchFault, MatchMountFault};
 ghost use Rattle.gno_codec.specs.Index.{index_bytes};
 ghost use Rattle.gno_codec.specs.declared.item.IndexItem.TheVariants as items;
 ghost use Rattle.gno_disk.specs.Phases.{AreUnwritten, phase};
 ghost use Rattle.log_pair.specs.Choice.{TwoTold};
+ghost use Rattle.log_pair.specs.Pair.{one_of, other_of};
 ghost use Rattle.log_pair.specs.PairView.{IsMaking, both_faults};
 ghost use Rattle.front_api.specs.Calls.{AddsTo, AppliesTo, BeginsOn, IsAdded, IsApplied, IsBegun};
 ghost use Rattle.front_api.specs.Maps.{Maps, new_maps};
@@ -20,7 +21,7 @@ use crate::book::Book;
 use crate::holding::{Held, put_back, take_book};
 use archive_policy::{Name, Policy};
 use front_api::{Command, ControlFault, MetricDoc, Reply};
-use gno_disk::Disk;
+use gno_disk::{Disk, Fusible};
 use log_pair::{LogFault, MountFault};
 use series_model::MetricId;
 use std::alloc::Global;
@@ -254,6 +255,43 @@ impl<D: Disk> Index<D> {
         match held {
             Some(Held::Mounted(book)) => book.into_disks(),
             Some(Held::Apart(a, b)) => (a, b),
+            None => unreachable!(),
+        }
+    }
+}
+
+impl<D: Fusible> Index<D> {
+    /// Sets the fuse of the disk of this number, 0 or 1.
+    pub fn fuse(&mut self, disk: u8, calls: u64)
+        requires { disk < 2 }
+        ensures set { OfDisks self.new.disks (λ a b. D.fused (one_of (disk == 1) a b) ≡ Some calls) }
+        ensures still { OfDisks self.old.disks (λ a b. OfDisks self.new.disks (λ c d. other_of (disk == 1) c d ≡ other_of (disk == 1) a b)) }
+        ensures same { self.new ≡ record self.old { disks = self.new.disks } }
+    {
+        match self.held.take() {
+            Some(Held::Mounted(mut book)) => {
+                book.fuse(disk, calls);
+                put_back(&mut self.held, Held::Mounted(book));
+            }
+            Some(Held::Apart(mut a, mut b)) => {
+                if disk == 1 {
+                    b.fuse(calls);
+                } else {
+                    a.fuse(calls);
+                }
+                put_back(&mut self.held, Held::Apart(a, b));
+            }
+            None => unreachable!(),
+        }
+    }
+
+    /// How many calls of the disks have failed for want of memory, at most 2^64 - 1.
+    pub fn starved(&self) -> u64
+        ensures { OfDisks self.now.disks (λ a b. result ≡ capped (D.starved a + D.starved b)) }
+    {
+        match &self.held {
+            Some(Held::Mounted(book)) => book.starved(),
+            Some(Held::Apart(a, b)) => a.starved().saturating_add(b.starved()),
             None => unreachable!(),
         }
     }

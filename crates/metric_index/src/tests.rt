@@ -113,6 +113,7 @@ fn policies_are_kept(rt: HostRuntime) -> Result<(), Fail> {
     let (a, b) = index.into_disks();
     let mut index = mounted(alloc, a, b)?;
     assert!(rt; is_done(index.apply(&Command::DropPolicy(name(alloc, "p")?))));
+    assert_eq!(rt; (index.entries(), index.starved()), (1, 0));
     Ok(())
 }
 
@@ -192,5 +193,21 @@ fn a_failed_call_is_mended(rt: HostRuntime) -> Result<(), Fail> {
         assert!(rt; !index.is_broken());
     }
     assert!(rt; failed);
+    Ok(())
+}
+
+// A disk that fails every call keeps the index broken until it works again.
+#[test]
+fn a_broken_index_is_mounted_once_its_disk_works(rt: HostRuntime) -> Result<(), Fail> {
+    let alloc = rt.alloc();
+    let mut index = fresh(alloc)?;
+    index.fuse(0, 0);
+    let wanted = Command::AddPolicy(policy(alloc, "p")?);
+    assert!(rt; matches!(index.apply(&wanted), Err(ControlFault::DiskFault(_))));
+    assert!(rt; matches!(index.apply(&wanted), Err(ControlFault::DiskFault(_))));
+    assert!(rt; index.is_broken());
+    index.fuse(0, 100);
+    assert!(rt; index.apply(&wanted).is_ok());
+    assert_eq!(rt; (index.is_broken(), index.entries()), (false, 4));
     Ok(())
 }
