@@ -117,7 +117,7 @@ fn policies_are_kept(rt: HostRuntime) -> Result<(), Fail> {
     Ok(())
 }
 
-// Rows d1 and d2.
+// An identifier is given once, also after a mounting.
 #[test]
 fn identifiers_are_new(rt: HostRuntime) -> Result<(), Fail> {
     let alloc = rt.alloc();
@@ -145,7 +145,11 @@ fn resources_in_use_stay(rt: HostRuntime) -> Result<(), Fail> {
     add_policy(alloc, &mut index, "p")?;
     assert!(rt; index.apply(&Command::AddResource(7)).is_ok());
     assert!(rt; matches!(begun(&mut index, Some(name(alloc, "p")?), None), Ok(_)));
-    assert!(rt; index.add_metric(&doc(alloc, FIRST)?).is_ok());
+    let doc = doc(alloc, FIRST)?;
+    if doc.name.is_none() {
+        return Err(Fail::from("no name"));
+    }
+    assert!(rt; index.add_metric(&doc).is_ok());
     let in_use = index.apply(&Command::DropResource(7));
     assert!(rt; matches!(in_use, Err(ControlFault::ResourceInUse)));
     assert!(rt; is_done(index.apply(&Command::DropMetric(FIRST))));
