@@ -1,0 +1,4 @@
+pub mod Held
+pub mod LoadLemmas
+pub mod Making
+pub mod Mounted

@@ -1,0 +1,5 @@
+pub mod Damage
+pub mod Inside
+pub mod Loading
+pub mod Shelf
+pub mod ShelfView
