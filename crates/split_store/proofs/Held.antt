@@ -12,24 +12,31 @@ use Rattle.log_pair.specs.PairView.{IsLastingPair, PairView}
 use Rattle.shelf_records.specs.Shelved.{AreLegal, Shelved}
 use Rattle.shelf_blocks.specs.Blocks.{HoldsMetrics}
 use Rattle.split_store.specs.Loading.{AreRecordsOf}
-use Rattle.split_store.specs.Shelf.{HoldsShelf, shelf_place}
+use Rattle.split_store.specs.Shelf.{HoldsShelf, IsShelfLog, shelf_place}
 
 pub same_place : (place : Place) → place.role ≡ 3 → shelf_place place ≡ place
 same_place place role = ap (λ r. record { role = r; sack = place.sack; sacks = place.sacks }) (sym role)
 
 -- the empty log, and any blocks
 pub empty_held : (place : Place) (a b z : List ℕ) → HoldsPair (shelf_place place) 1 [] a b → HoldsShelf place [] a b z
-empty_held place a b z held = record { epoch = 1; items = []; held = held; each = All-nil IsShelf; legal = tt; stand = tt }
+empty_held place a b z held = record { epoch = 1; items = []; log = record { held = held; each = All-nil IsShelf; legal = tt }; stand = tt }
 
--- records that a book has, and blocks that hold what its metrics have
+-- the records that a book has
+pub log_by : (size : ℕ) (metrics : List Shelved) (place : Place) (epoch : ℕ) (records : List (List ℕ)) (a b z : List ℕ) → place.role ≡ 3 → length z ≡ size
+    → (are : AreRecordsOf size metrics records) → HoldsPair place epoch records a b → IsShelfLog place (length z) epoch are.items a b
+log_by size metrics place epoch records a b z role long are held = record {
+  held = subst (λ p. HoldsPair p epoch (map shelf_bytes are.items) a b) (sym (same_place place role)) (subst (λ rs. HoldsPair place epoch rs a b) are.are held);
+  each = are.each;
+  legal = subst (λ n. AreLegal n [] are.items) (sym long) are.legal;
+}
+
+-- and blocks that hold what its metrics have
 pub held_by : (size : ℕ) (metrics : List Shelved) (place : Place) (epoch : ℕ) (records : List (List ℕ)) (lives : List Live) (a b z : List ℕ) → place.role ≡ 3 → length z ≡ size
     → AreRecordsOf size metrics records → HoldsPair place epoch records a b → HoldsMetrics z metrics lives → HoldsShelf place lives a b z
 held_by size metrics place epoch records lives a b z role long are held stand = record {
   epoch = epoch;
   items = are.items;
-  held = subst (λ p. HoldsPair p epoch (map shelf_bytes are.items) a b) (sym (same_place place role)) (subst (λ rs. HoldsPair place epoch rs a b) are.are held);
-  each = are.each;
-  legal = subst (λ n. AreLegal n [] are.items) (sym long) are.legal;
+  log = log_by size metrics place epoch records a b z role long are held;
   stand = subst (λ ms. HoldsMetrics z ms lives) (sym are.metrics_are) stand;
 }
 

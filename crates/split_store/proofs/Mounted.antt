@@ -31,7 +31,8 @@ use Rattle.split_store.specs.Damage.{IsDamagedShelf, IsOddRecord}
 use Rattle.split_store.specs.Damage.IsOddRecord.{unspelled, unfit}
 use Rattle.split_store.specs.Damage.IsDamagedShelf.{odd}
 use Rattle.split_store.specs.Loading.{AreRecordsOf, IsOddBehind}
-use Rattle.split_store.specs.Shelf.{HoldsNoShelf, HoldsShelf, shelf_place}
+use Rattle.split_store.specs.Shelf.{HasNoShelfLog, HasShelfLog, HoldsShelf, IsShelfLog, shelf_place}
+use Rattle.split_store.proofs.Held.{log_by}
 use Rattle.split_store.specs.ShelfView.{ThreeTold}
 
 -- the same bytes are those of the same records
@@ -52,14 +53,26 @@ three_of_two (Some x) None tz P Q has p = tt
 three_of_two (Some x) (Some y) None P Q has p = tt
 three_of_two (Some x) (Some y) (Some z) P Q has p = has x y z refl refl refl p
 
+-- the metrics of the book are those of any records that the pair holds
+pub metrics_by : (size : ℕ) (metrics : List Shelved) (place : Place) (records : Option (List (List ℕ))) (epoch number length_z : ℕ) (items : List ShelfItem) (x y : List ℕ) → IfSome records (AreRecordsOf size metrics)
+    → ((e : ℕ) (rs : List (List ℕ)) → HoldsPair (shelf_place place) e rs x y → (epoch ≡ e) × (records ≡ Some rs)) → IsShelfLog place length_z number items x y → (epoch ≡ number) × (metrics ≡ after_records [] items)
+metrics_by size metrics place records epoch number length_z items x y are exact log =
+    let is = exact number (map shelf_bytes items) log.held in
+    let of : AreRecordsOf size metrics (map shelf_bytes items) = subst (λ o. IfSome o (AreRecordsOf size metrics)) is.1 are in
+    (is.0, sym of.metrics_are ∙ ap (after_records []) (sym (same_items items of.items log.each of.each of.are)))
+
 -- what the blocks hold, by the book
 pub stand_by : (size : ℕ) (metrics : List Shelved) (place : Place) (records : Option (List (List ℕ))) (epoch : ℕ) (lives : List Live) (x y z : List ℕ) → IfSome records (AreRecordsOf size metrics)
     → ((e : ℕ) (rs : List (List ℕ)) → HoldsPair (shelf_place place) e rs x y → (epoch ≡ e) × (records ≡ Some rs)) → HoldsShelf place lives x y z → HoldsMetrics z metrics lives
 stand_by size metrics place records epoch lives x y z are exact h =
-    let is = (exact h.epoch (map shelf_bytes h.items) h.held).1 in
-    let of : AreRecordsOf size metrics (map shelf_bytes h.items) = subst (λ o. IfSome o (AreRecordsOf size metrics)) is are in
-    let same : h.items ≡ of.items = same_items h.items of.items h.each of.each of.are in
-    subst (λ ms. HoldsMetrics z ms lives) (ap (after_records []) same ∙ of.metrics_are) h.stand
+    subst (λ ms. HoldsMetrics z ms lives) (sym (metrics_by size metrics place records epoch h.epoch (length z) h.items x y are exact h.log).1) h.stand
+
+-- the records that the book was read from
+pub has_log : {D : Type 0} (p : PairView D) (records : List (List ℕ)) (size : ℕ) (metrics : List Shelved) (place : Place) (x y z : List ℕ) → p.place ≡ shelf_place place → p.records ≡ Some records → length z ≡ size
+    → AreOfPair p x y → AreRecordsOf size metrics records → HasShelfLog place (length z) p.epoch metrics x y
+has_log p records size metrics place x y z is told long held are =
+    let log = log_by size metrics (shelf_place place) p.epoch records x y z refl long are (subst (λ q. HoldsPair q p.epoch records x y) is (subst (λ o. IfSome o (λ rs. HoldsPair p.place p.epoch rs x y)) told held)) in
+    record { items = are.items; log = record { held = log.held; each = log.each; legal = log.legal }; metrics_are = sym are.metrics_are }
 
 -- a fault of a part of the call
 pub cause_of : (e r : MountFault) (before after counted counted_too : ℕ) (P : Fault → Type 0) (Q Q' : Damage → Type 0) → counted ≡ before → counted_too ≡ after → ((f : Fault) → P f → Rose before after) → ((d : Damage) → Q d → Q' d)
@@ -126,16 +139,16 @@ odd_never size items body s (unfit item is spelled never) =
     let same : s.item ≡ item = one_spelling shelf_field s.item item s.is is (sym s.spelled ∙ spelled) in
     never (subst (MayFollow (after_records [] items)) same s.follows, subst (λ i. AreBlocks size (after_record (after_records [] items) i)) same s.blocks)
 
--- and then no metrics are held
+-- and then there are no legal records
 pub odd_held_never : {D : Type 0} (p : PairView D) (records : List (List ℕ)) (size : ℕ) (place : Place) (number : ℕ) (a b z : List ℕ) (d : Damage) → length z ≡ size
     → ((epoch : ℕ) (rs : List (List ℕ)) → HoldsPair (shelf_place place) epoch rs a b → (number ≡ epoch) × (Some records ≡ Some rs))
-    → IsOddOf (IsOddBehind size) p records d → HoldsNoShelf place a b z
-odd_held_never p records size place number a b z d long exact o lives h =
+    → IsOddOf (IsOddBehind size) p records d → HasNoShelfLog place (length z) a b
+odd_held_never p records size place number a b z d long exact o epoch items log =
     let of = o.odd in
-    let is : records ≡ map shelf_bytes h.items = cc_some records (map shelf_bytes h.items) (exact h.epoch (map shelf_bytes h.items) h.held).1 in
+    let is : records ≡ map shelf_bytes items = cc_some records (map shelf_bytes items) (exact epoch (map shelf_bytes items) log.held).1 in
     odd_never size of.items o.body
-    (stood size [] of.items h.items o.body (drop (o.index + 1) records) of.each h.each
-    (sym is ∙ split_at records o.index o.body o.stands ∙ ap (λ rs. rs ++ o.body ∷ drop (o.index + 1) records) of.are) (subst (λ n. AreLegal n [] h.items) long h.legal)) of.odd
+    (stood size [] of.items items o.body (drop (o.index + 1) records) of.each log.each
+    (sym is ∙ split_at records o.index o.body o.stands ∙ ap (λ rs. rs ++ o.body ∷ drop (o.index + 1) records) of.are) (subst (λ n. AreLegal n [] items) long log.legal)) of.odd
   where
     cc_some : (xs ys : List (List ℕ)) → Some xs ≡ Some ys → xs ≡ ys
     cc_some xs ys same = cc

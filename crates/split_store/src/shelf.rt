@@ -4,8 +4,10 @@ ghost use Rattle.std.specs.List.Sorted.{IsStrictlyIncreasing};
 ghost use Rattle.gno_disk.specs.Phases.{AreUnwritten, phase};
 ghost use Rattle.gate_log.specs.LogView.{IsFault, MatchFault, MatchMountFault};
 ghost use Rattle.split_update.specs.Live.{Live};
+ghost use Rattle.gno_codec.specs.declared.item.ShelfItem.{ShelfItem};
+ghost use Rattle.shelf_records.specs.Shelved.{after_records};
 ghost use Rattle.split_store.specs.Damage.{IsDamagedShelf};
-ghost use Rattle.split_store.specs.Shelf.{HoldsNoShelf, HoldsShelf, shelf_place};
+ghost use Rattle.split_store.specs.Shelf.{HasNoShelfLog, HasShelfLog, HoldsShelf, IsShelfLog, shelf_place};
 ghost use Rattle.split_store.specs.ShelfView.{IsLastingShelf, IsMakingShelf, Keeps, ThreeTold, all_faults};
 
 use crate::load::load;
@@ -143,6 +145,11 @@ impl<D: Disk> Shelf<D> {
         place: Place,
     ) -> Result<Shelf<D>, (D, D, D, MountFault)>
         ensures place { IfOk result (λ shelf. (shelf.place ≡ shelf_place place) × (shelf.broken ≡ false)) }
+        ensures log { IfOk result (λ shelf. ThreeTold (D.told a) (D.told b) (D.told blocks)
+            (λ x y z. HasShelfLog place (length z) shelf.epoch shelf.metrics x y)) }
+        ensures exact { IfOk result (λ shelf. ThreeTold (D.told a) (D.told b) (D.told blocks)
+            (λ x y z. (epoch : ℕ) (items : List ShelfItem) → IsShelfLog place (length z) epoch items x y
+            → (shelf.epoch ≡ epoch) × (shelf.metrics ≡ after_records [] items))) }
         ensures keeps { IfOk result (λ shelf. ThreeTold (D.told a) (D.told b) (D.told blocks)
             (λ x y z. (lives : List Live) → HoldsShelf place lives x y z → Keeps D.Disk shelf lives)) }
         ensures held { IfOk result (λ shelf. ThreeTold (D.told a) (D.told b) (D.told blocks)
@@ -158,7 +165,7 @@ impl<D: Disk> Shelf<D> {
             (IsFault (all_faults D.Disk a b blocks) (all_faults D.Disk e.0 e.1 e.2))
             (λ d. ThreeTold (D.told a) (D.told b) (D.told blocks) (λ x y z. IsDamagedShelf place (length z) x y d)) ⊤) }
         ensures never_held { IfErr result (λ e. MatchMountFault e.3 (λ _. ⊤)
-            (λ _. ThreeTold (D.told a) (D.told b) (D.told blocks) (HoldsNoShelf place)) ⊤) }
+            (λ _. ThreeTold (D.told a) (D.told b) (D.told blocks) (λ x y z. HasNoShelfLog place (length z) x y)) ⊤) }
     {
         let before = all_faults(&a, &b, &blocks);
         match blocks.sync() {

@@ -1,4 +1,4 @@
-use Rattle.std.proofs.Common.{◌≡◌, ℕ, List, Some, ap, sym, subst, ◌∙◌, arith}
+use Rattle.std.proofs.Common.{◌≡◌, ℕ, List, length, Some, ap, sym, subst, ◌∙◌, arith}
 use Rattle.std.specs.Option.{IfSome, is_some}
 use Rattle.gno_disk.specs.Disk.{Only}
 use Rattle.gno_disk.specs.Phases.{IsUnwritten, phase}
@@ -9,9 +9,9 @@ use Rattle.log_pair.specs.PairView.{AreOfPair}
 use Rattle.pair_reading.proofs.ReadLemmas.{lasting_read, unwritten_then}
 use Rattle.split_store.specs.Damage.IsDamagedShelf.{pair}
 use Rattle.split_store.specs.Loading.{AreRecordsOf}
-use Rattle.split_store.specs.Shelf.{shelf_place}
+use Rattle.split_store.specs.Shelf.{HasShelfLog, shelf_place}
 use Rattle.split_store.proofs.Held.{lasting_held, records_told}
-use Rattle.split_store.proofs.Mounted.{cause_of, damage_here, long_by, never_of, odd_held_never, sync_unwritten, stand_by, three_damaged, three_of_two, two_and}
+use Rattle.split_store.proofs.Mounted.{cause_of, damage_here, has_log, long_by, metrics_by, never_of, odd_held_never, sync_unwritten, stand_by, three_damaged, three_of_two, two_and}
 use Rattle.split_store.proofs.shelf.Shelf.mount.Goals as goal
 
 pub returns-in-Err-clause-came_err : goal.returns-in-Err-clause-came_err
@@ -33,7 +33,7 @@ returns-in-Err-mount-clause-never_held g c =
     let told = g.D.Disk.told in
     let e = c.in-Err-mount in
     never_of e.fault c.counted-fault.result _ _ _ _
-    (λ d none. three_of_two (told c.args.a) (told c.args.b) (told c.args.blocks) _ _ (λ x y z ta tb tz no lives h. no h.epoch _ h.held) (subst (λ q. TwoTold (told c.args.a) (told c.args.b) (HoldsNoPair q)) c.place_of.ensures none))
+    (λ d none. three_of_two (told c.args.a) (told c.args.b) (told c.args.blocks) _ _ (λ x y z ta tb tz no epoch items log. no epoch _ log.held) (subst (λ q. TwoTold (told c.args.a) (told c.args.b) (HoldsNoPair q)) c.place_of.ensures none))
     e.ensures.never_held c.counted-fault.ensures
 
 pub returns-in-Ok-load-clause-came : goal.returns-in-Ok-load-clause-came
@@ -134,3 +134,23 @@ returns-in-Err-load-clause-never_held g c =
     (λ e ss held. let both = exact e ss held in (both.0, sym is ∙ both.1)) o)
     (subst (λ q. TwoTold (told c.args.a) (told c.args.b) (λ x y. (epoch : ℕ) (rs : List (List ℕ)) → HoldsPair q epoch rs x y → (p.pair.epoch ≡ epoch) × (p.pair.records ≡ Some rs))) c.place_of.ensures p.ensures.exact) odd)
     c.in-Err-load.ensures.cause c.counted-fault-in-Err-load.ensures
+
+pub returns-in-Ok-load-clause-log : goal.returns-in-Ok-load-clause-log
+returns-in-Ok-load-clause-log g c =
+    let p = c.in-Ok-mount in
+    let r = c.load.ensures.reads in
+    let told = g.D.Disk.told in
+    let metrics = c.in-Ok-load.book.metrics in
+    three_damaged (told c.args.a) (told c.args.b) (told c.args.blocks) p.pair.records (λ x y. AreOfPair p.pair x y) (AreRecordsOf c.len.result metrics) _ p.ensures.told
+    (λ rs x y z is ez held are. subst (λ n. HasShelfLog c.args.place (length z) n metrics x y) (sym r.epoch)
+    (has_log p.pair rs c.len.result metrics c.args.place x y z (p.ensures.place ∙ c.place_of.ensures) is (long_by g.D.Disk g.met.D.Disk.whole c.sync.new.self z c.len.result (c.sync.ensures.told ∙ ez) c.len.ensures.value) held are))
+    p.ensures.held c.in-Ok-load.ensures.are
+
+pub returns-in-Ok-load-clause-exact : goal.returns-in-Ok-load-clause-exact
+returns-in-Ok-load-clause-exact g c =
+    let p = c.in-Ok-mount in
+    let r = c.load.ensures.reads in
+    let told = g.D.Disk.told in
+    three_of_two (told c.args.a) (told c.args.b) (told c.args.blocks) _ _
+    (λ x y z ea eb ez exact epoch items log. let both = metrics_by c.len.result c.in-Ok-load.book.metrics c.args.place p.pair.records p.pair.epoch epoch (length z) items x y c.in-Ok-load.ensures.are exact log in (r.epoch ∙ both.0, both.1))
+    (subst (λ q. TwoTold (told c.args.a) (told c.args.b) (λ x y. (epoch : ℕ) (rs : List (List ℕ)) → HoldsPair q epoch rs x y → (p.pair.epoch ≡ epoch) × (p.pair.records ≡ Some rs))) c.place_of.ensures p.ensures.exact)
