@@ -76,6 +76,7 @@ impl Raw {
     pub fn points(&self) -> &[Measure]
         ensures value { result.now ≡ self.now.points }
         ensures rising { IsStrictlyIncreasing (map (λ m. m.at) (members_of self.now)) }
+        ensures last { self.now.last ≡ last_time self.now.points }
     {
         self.points.as_slice()
     }

@@ -41,11 +41,11 @@ fault_step true tried more rest = sym (append_assoc tried more rest)
 fault_step false tried more rest = refl
 
 -- Where no fault is open, nothing was tried. What was tried might have counted at these maps.
-record IsSound (s : IndexState) : Type 0 where
+record TellsNoDamage (s : IndexState) : Type 0 where
   rest : s.is_open ≡ false → s.tried ≡ []
   may : MayAllCount s.maps s.tried
 
-sound_rest : (m : Maps) → IsSound (at_rest m)
+sound_rest : (m : Maps) → TellsNoDamage (at_rest m)
 sound_rest m = record { rest = λ e. refl; may = tt }
 
 -- the state's maps are those of what is kept, and all of that may count
@@ -74,7 +74,7 @@ reopened_step s true h may rest =
 reopened_step s false h may rest =
     moved s (entries.Reopened false ∷ h) (index_kept h) (rest.maps ∙ ap (after_all s.maps) (kept_with-none h)) (subst (MayAllCount s.maps) (kept_with-none h) rest.counts) refl
 
-tells : (s : IndexState) (h : List IndexEntry) → IsSound s → MayAllFollow s h → Tells s h
+tells : (s : IndexState) (h : List IndexEntry) → TellsNoDamage s → MayAllFollow s h → Tells s h
 tells s [] sound legal = record { maps = refl; counts = tt }
 tells s (entries.Counted c ∷ h) sound legal =
     let none : s.tried ≡ [] = sound.rest legal.0.0 in

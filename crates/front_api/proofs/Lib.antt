@@ -2,3 +2,8 @@ pub mod CallLemmas
 pub mod HistoryLemmas
 pub mod SortedTables
 mod TableLemmas
+pub mod Leading
+pub mod Entering
+pub mod GoingOn
+pub mod Acknowledged
+pub mod Turning

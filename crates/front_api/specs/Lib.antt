@@ -3,4 +3,9 @@ pub mod Maps
 pub mod Replies
 pub mod IndexHistory
 pub mod Calls
+pub mod FaultWords
+pub mod Seen
+pub mod Front
+pub mod Bench
 pub mod Laws
+pub mod SeenLaws

@@ -238,6 +238,13 @@ impl<D: Disk> Incoming<D> {
         self.contents.places_above(metric, above).len() as u64
     }
 
+    /// How often both disks have failed, at most 2^64 - 1.
+    pub fn faults(&self) -> u64
+        ensures { result ≡ both_faults D.Disk self.now.first self.now.second }
+    {
+        self.pair.faults()
+    }
+
     /// Whether a call has failed, so that the disks are to be mounted again.
     pub fn is_broken(&self) -> bool
         ensures value { result ≡ self.now.broken }

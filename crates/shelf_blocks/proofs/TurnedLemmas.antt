@@ -1,10 +1,13 @@
 -- What has become of each series of a metric.
 use Rattle.std.proofs.Common.{◌≡◌, ℕ, ◌+◌, ◌*◌, ◌/◌, ◌%◌, ◌<◌, List, [], ◌∷◌, ◌++◌, length, map, take, drop, slice_get, slice_index_or, Option, Some, Result, Ok, Err, IfOk, refl, sym, ap, subst, ◌∙◌, arith, length-append}
-use Rattle.std.specs.List.{All, AllZip}
+use Rattle.std.specs.List.{All, AllZip, filter}
+use Rattle.std.specs.Prelude.{not}
 use Rattle.std.specs.List.Sorted.{IsStrictlyIncreasing}
 use Rattle.std.proofs.lemmas.Option.{same_Some, slice_get-get_or}
 use Rattle.std.proofs.lemmas.List.{drop_more, length-map}
+use Rattle.std.proofs.lemmas.List.Elements.{All-cons, All-nil}
 use Rattle.std.proofs.lemmas.List.Sums.{sum_by-cons}
+use Rattle.gno_codec.specs.declared.item.Block.{Block}
 use Rattle.std.proofs.Math.Nat.{mod-add-div', mod-lt, suc-mul, div-lt_iff_lt-mul}
 use Rattle.archive_policy.specs.declared.definition.Definition.{Definition}
 use Rattle.archive_policy.specs.declared.kind.Kind.{Kind}
@@ -14,14 +17,14 @@ use Rattle.series_model.specs.declared.point.Split.{Split}
 use Rattle.shelf_records.specs.declared.moves.Move.{Move}
 use Rattle.shelf_records.specs.declared.series.Stored.{Stored}
 use Rattle.shelf_records.specs.Filed.{IsFiled, emptied}
-use Rattle.shelf_records.specs.Moves.{blocks_of_moves}
+use Rattle.shelf_records.specs.Moves.{blocks_of_moves, gone_of, is_put, put_of}
 use Rattle.shelf_records.specs.Series.{after_moves}
 use Rattle.shelf_records.specs.Shelved.{Kept, Shelved, none_kept}
 use Rattle.block_slots.specs.declared.slots.Piece.{Piece}
 use Rattle.block_slots.specs.Slots.{FillsSlot}
 use Rattle.shelf_blocks.specs.declared.turn.Made.{Made}
-use Rattle.shelf_blocks.specs.Pieces.{AreSplitPieces, IsSplitPiece, all_stored_as}
-use Rattle.shelf_blocks.specs.Turns.{AreTurned, IsFitting, IsMade, IsTurned, IsTurnedAt, made_count}
+use Rattle.shelf_blocks.specs.Pieces.{AreSplitPieces, IsPiece, IsSplitPiece, all_stored_as, block_of}
+use Rattle.shelf_blocks.specs.Turns.{AreTurned, IsFitting, IsMade, IsTurned, IsTurnedAt, keys_gone, made_count}
 use Rattle.shelf_blocks.proofs.Held.{all_back, all_front}
 use Rattle.shelf_blocks.proofs.SeriesPlaces.{get_within, series_at}
 use Rattle.shelf_blocks.proofs.Written.{splits_written}
@@ -73,8 +76,9 @@ stored_keys g splits places pieces stored are = ap (map (λ (s : Stored). s.key)
 pub turned_is : (m : Shelved) (place : ℕ) (made : Made) (kept : Kept) (d : Definition) (places : List ℕ) (before more pieces : List Piece) (stored : List Stored) (series : List Stored) (own : List Move)
     → slice_get m.kept place ≡ Some kept → slice_get m.policy.definitions kept.definition ≡ Some d → pieces ≡ before ++ more → AreSplitPieces d.granularity made.splits.items places more stored
     → series ≡ drop made.kept.first (take made.kept.until kept.splits) ++ stored → after_moves own kept.splits ≡ drop made.kept.first (take made.kept.until kept.splits) ++ stored
-    → IsStrictlyIncreasing (map (λ m. m.key) own) → blocks_of_moves own ≡ map (λ s. s.block) stored → IsTurnedAt m pieces place made series own
-turned_is m place made kept d places before more pieces stored series own there of pieces_are written series_is leads rising blocks = λ other e other_there e_is.
+    → IsStrictlyIncreasing (map (λ m. m.key) own) → filter is_put own ≡ map put_of stored → filter (λ m. not (is_put m)) own ≡ map gone_of (keys_gone kept.splits made stored)
+    → blocks_of_moves own ≡ map (λ s. s.block) stored → IsTurnedAt m pieces place made series own
+turned_is m place made kept d places before more pieces stored series own there of pieces_are written series_is leads rising puts gone blocks = λ other e other_there e_is.
     let one = same_Some kept other (sym there ∙ other_there) in
     let e_same : d ≡ e = same_Some d e (sym of ∙ ap (λ (k : Kept). slice_get m.policy.definitions k.definition) one ∙ e_is) in
     subst (λ (f : Definition). IsTurned pieces f other.splits made series own) e_same
@@ -84,6 +88,9 @@ turned_is m place made kept d places before more pieces stored series own there 
       series_is = series_is;
       leads = leads ∙ sym series_is;
       rising = rising;
+      keys = stored_keys d.granularity made.splits.items places more stored written;
+      puts = puts;
+      gone = gone;
       blocks = blocks;
       written = λ z fills. splits_written z d.granularity made.splits.items places more stored written (all_back (FillsSlot z) before more (subst (All (FillsSlot z)) pieces_are fills));
     }))
@@ -103,20 +110,21 @@ at_place m place kinds ds d kinds_are ds_are filed lt =
 pub all_turned : {T E : Type 0} (result : Result T E) (s : T → List Stored) (own : T → List Move) (m : Shelved) (place : ℕ) (made : Made) (kept : Kept) (d : Definition) (places : List ℕ) (before more pieces : List Piece) (stored now : List Stored)
     → slice_get m.kept place ≡ Some kept → now ≡ kept.splits → slice_get m.policy.definitions kept.definition ≡ Some d → pieces ≡ before ++ more → AreSplitPieces d.granularity made.splits.items places more stored
     → IfOk result (λ t. s t ≡ drop made.kept.first (take made.kept.until now) ++ stored) → IfOk result (λ t. after_moves (own t) now ≡ drop made.kept.first (take made.kept.until now) ++ stored)
-    → IfOk result (λ t. IsStrictlyIncreasing (map (λ m. m.key) (own t))) → IfOk result (λ t. blocks_of_moves (own t) ≡ map (λ s. s.block) stored)
+    → IfOk result (λ t. IsStrictlyIncreasing (map (λ m. m.key) (own t))) → IfOk result (λ t. filter is_put (own t) ≡ map put_of stored) → IfOk result (λ t. filter (λ m. not (is_put m)) (own t) ≡ map gone_of (keys_gone now made stored))
+    → IfOk result (λ t. blocks_of_moves (own t) ≡ map (λ s. s.block) stored)
     → IfOk result (λ t. IsTurnedAt m pieces place made (s t) (own t))
-all_turned (Err e) s own m place made kept d places before more pieces stored now there now_is of pieces_are written series_is leads rising blocks = tt
-all_turned (Ok t) s own m place made kept d places before more pieces stored now there now_is of pieces_are written series_is leads rising blocks =
+all_turned (Err e) s own m place made kept d places before more pieces stored now there now_is of pieces_are written series_is leads rising puts gone blocks = tt
+all_turned (Ok t) s own m place made kept d places before more pieces stored now there now_is of pieces_are written series_is leads rising puts gone blocks =
     turned_is m place made kept d places before more pieces stored (s t) (own t) there of pieces_are written
     (subst (λ (n : List Stored). s t ≡ drop made.kept.first (take made.kept.until n) ++ stored) now_is series_is)
     (subst (λ (n : List Stored). after_moves (own t) n ≡ drop made.kept.first (take made.kept.until n) ++ stored) now_is leads)
-    rising blocks
+    rising puts (subst (λ (n : List Stored). filter (λ m. not (is_put m)) (own t) ≡ map gone_of (keys_gone n made stored)) now_is gone) blocks
 
 -- more pieces, and a series more
 turned_more : (m : Shelved) (place : ℕ) (made : Made) (pieces more : List Piece) (s : List Stored) (own : List Move) → IsTurnedAt m pieces place made s own → IsTurnedAt m (pieces ++ more) place made s own
 turned_more m place made pieces more s own is = λ kept d there of.
     let t = is kept d there of in
-    record { new = t.new; series_is = t.series_is; leads = t.leads; rising = t.rising; blocks = t.blocks; written = λ z fills. t.written z (all_front (FillsSlot z) pieces more fills) }
+    record { new = t.new; series_is = t.series_is; leads = t.leads; rising = t.rising; keys = t.keys; puts = t.puts; gone = t.gone; blocks = t.blocks; written = λ z fills. t.written z (all_front (FillsSlot z) pieces more fills) }
 
 pub are_turned_more : (m : Shelved) (e : ℕ) (pieces more : List Piece) (all : List Made) (series : List (List Stored)) (moves : List (List Move)) → AreTurned m pieces e all series moves → AreTurned m (pieces ++ more) e all series moves
 are_turned_more m e pieces more [] [] [] are = are
@@ -142,3 +150,24 @@ count_left all i made lt is = ap made_count (drop_more all i made lt ∙ ap (λ 
 pub no_items : {X : Type 0} (xs : List X) → length xs ≡ 0 → xs ≡ []
 no_items [] none = refl
 no_items (x ∷ xs) none = absurd (omega (arith, none))
+
+-- the blocks of stored splits are those of their pieces
+stored_blocks : (g : ℕ) (splits : List Split) (pieces : List Piece) → AllZip (IsSplitPiece g) splits pieces → map (λ (s : Stored). s.block) (all_stored_as splits pieces) ≡ map block_of pieces
+stored_blocks g [] [] each = refl
+stored_blocks g [] (p ∷ pieces) each = absurd each
+stored_blocks g (s ∷ splits) [] each = absurd each
+stored_blocks g (s ∷ splits) (p ∷ pieces) each = ap (λ (bs : List Block). block_of p ∷ bs) (stored_blocks g splits pieces each.1)
+
+all_pieces : (g : ℕ) (splits : List Split) (pieces : List Piece) → AllZip (IsSplitPiece g) splits pieces → All IsPiece pieces
+all_pieces g [] [] each = All-nil IsPiece
+all_pieces g [] (p ∷ pieces) each = absurd each
+all_pieces g (s ∷ splits) [] each = absurd each
+all_pieces g (s ∷ splits) (p ∷ pieces) each = All-cons IsPiece p pieces each.0.piece (all_pieces g splits pieces each.1)
+
+-- the pieces that one series adds
+pub pieces_added : {T E : Type 0} (result : Result T E) (own : T → List Move) (g : ℕ) (splits : List Split) (places : List ℕ) (before more pieces : List Piece) (stored : List Stored)
+    → pieces ≡ before ++ more → AreSplitPieces g splits places more stored → IfOk result (λ t. blocks_of_moves (own t) ≡ map (λ s. s.block) stored)
+    → IfOk result (λ t. (more : List Piece) × (pieces ≡ before ++ more) × (map (λ p. p.at) more ≡ places) × All IsPiece more × (blocks_of_moves (own t) ≡ map block_of more))
+pieces_added (Err e) own g splits places before more pieces stored pieces_are written blocks = tt
+pieces_added (Ok t) own g splits places before more pieces stored pieces_are written blocks =
+    (more, pieces_are, written.places_are, all_pieces g splits more written.each, blocks ∙ ap (map (λ (s : Stored). s.block)) written.stored_are ∙ stored_blocks g splits more written.each)

@@ -1,6 +1,6 @@
 -- A turn of series of splits.
-use Rattle.std.specs.Prelude.{◌≡◌, ℕ, ◌+◌, ◌%◌, ◌≤◌, List, [], ◌∷◌, ◌++◌, length, map, take, drop, slice_get, All, Option, Some, None, IfSome, sum_by}
-use Rattle.std.specs.List.{AllZip, Contains}
+use Rattle.std.specs.Prelude.{◌≡◌, ℕ, ◌+◌, ◌%◌, ◌≤◌, List, [], ◌∷◌, ◌++◌, length, map, take, drop, not, slice_get, All, Option, Some, None, IfSome, sum_by}
+use Rattle.std.specs.List.{AllZip, Contains, filter}
 use Rattle.std.specs.List.Sorted.{IsStrictlyIncreasing}
 use Rattle.archive_policy.specs.declared.definition.Definition.{Definition}
 use Rattle.archive_policy.specs.Policies.{ArchivePolicy}
@@ -11,7 +11,7 @@ use Rattle.bound_series.specs.Jobs.{PreparedView, points_for}
 use Rattle.split_update.specs.Update.{AreSplits, oldest_by, splits_after}
 use Rattle.shelf_records.specs.declared.series.Stored.{Stored}
 use Rattle.shelf_records.specs.declared.moves.Move.{Move}
-use Rattle.shelf_records.specs.Moves.{blocks_of_moves}
+use Rattle.shelf_records.specs.Moves.{blocks_of_moves, gone_of, is_made, is_put, put_of}
 use Rattle.shelf_records.specs.Series.{after_moves}
 use Rattle.shelf_records.specs.Shelved.{Kept, Shelved}
 use Rattle.block_slots.specs.declared.slots.Piece.{Piece}
@@ -82,13 +82,21 @@ AreFitting m all = (place : ℕ) (made : Made) → slice_get all place ≡ Some 
 abbrev pub made_count : List Made → ℕ
 made_count all = sum_by (λ made. length made.splits.items) all
 
--- What has become of one series: the splits that stay and the new ones behind them, the moves that lead there,
--- and where the new ones stand once these pieces are written.
+-- the keys of the splits that go, where some are made: those of old splits that don't stay and aren't made again
+abbrev pub keys_gone : List Stored → Made → List Stored → List ℕ
+keys_gone stored made new =
+    filter (λ key. not (is_made new key)) (map (λ s. s.key) (take made.kept.first stored ++ drop made.kept.until stored))
+
+-- What has become of one series: the splits that stay and the new ones behind them; the moves that lead there, of
+-- those that are made and of those that go; and where the new ones stand once these pieces are written.
 pub record IsTurned (pieces : List Piece) (d : Definition) (stored : List Stored) (made : Made) (series : List Stored) (own : List Move) : Type 0 where
   pub new : List Stored
   pub series_is : series ≡ drop made.kept.first (take made.kept.until stored) ++ new
   pub leads : after_moves own stored ≡ series
   pub rising : IsStrictlyIncreasing (map (λ m. m.key) own)
+  pub keys : map (λ s. s.key) new ≡ map (λ s. s.key) made.splits.items
+  pub puts : filter is_put own ≡ map put_of new
+  pub gone : filter (λ m. not (is_put m)) own ≡ map gone_of (keys_gone stored made new)
   pub blocks : blocks_of_moves own ≡ map (λ s. s.block) new
   pub written : (z : List ℕ) → All (FillsSlot z) pieces → AllZip (HoldsSplit z d.granularity) new made.splits.items
 

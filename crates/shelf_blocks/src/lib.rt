@@ -16,6 +16,7 @@ pub use pieces::{add_split_pieces, chunks_for, raw_pieces};
 pub use raw::read_series;
 pub use splits::{chunk_piece, read_split_in, split_piece};
 pub use turn::{Made, made_of, make_all};
+pub use turned::{Turned, turn_all};
 
 #[cfg(test)]
 mod tests;

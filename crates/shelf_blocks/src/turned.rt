@@ -1,6 +1,9 @@
 // What has become of all series of a metric.
-ghost use Rattle.std.specs.Prelude.{◌≡◌, ◌≤◌, ◌<◌, ◌+◌, ◌++◌, List, length, map, IfOk, OnOk, take, drop, sum_by};
+ghost use Rattle.std.specs.Prelude.{◌≡◌, ◌≤◌, ◌<◌, ◌+◌, ◌++◌, List, All, length, map, IfOk, take, drop, sum_by};
+ghost use Rattle.std.specs.List.{flat_map};
 ghost use Rattle.block_slots.specs.declared.slots.Piece.{Piece};
+ghost use Rattle.shelf_records.specs.Moves.{blocks_of_moves};
+ghost use Rattle.shelf_blocks.specs.Pieces.{IsPiece, block_of};
 ghost use Rattle.shelf_blocks.specs.Turns.{AreFitting, AreTurned, IsFittingAt, IsTurnedAt, made_count};
 
 use crate::pieces::add_split_pieces;
@@ -29,7 +32,8 @@ pub fn turn_all(
     requires count { length all.now ≡ length filed.now.kept }
     requires fit { AreFitting filed.now all.now }
     requires places { length places.now ≡ made_count all.now }
-    ensures pieces { OnOk result ((more : List Piece) × (pieces.new.items ≡ pieces.old.items ++ more) × (map (λ p. p.at) more ≡ places.now)) }
+    ensures pieces { IfOk result (λ turned. (more : List Piece) × (pieces.new.items ≡ pieces.old.items ++ more) × (map (λ p. p.at) more ≡ places.now)
+        × All IsPiece more × (flat_map blocks_of_moves (map (λ own. own.items) turned.moves.items) ≡ map block_of more)) }
     ensures turned { IfOk result (λ turned. AreTurned filed.now pieces.new.items 0 all.now turned.series.items (map (λ own. own.items) turned.moves.items)) }
 {
     let mut series = Vec::with_capacity(alloc, all.len())?;
@@ -58,7 +62,8 @@ fn turn_one(
     requires place { place < length filed.now.kept }
     requires fits { IsFittingAt filed.now place made.now }
     requires places { length places.now ≡ length made.now.splits.items }
-    ensures pieces { OnOk result ((more : List Piece) × (pieces.new.items ≡ pieces.old.items ++ more) × (map (λ p. p.at) more ≡ places.now)) }
+    ensures pieces { IfOk result (λ turned. (more : List Piece) × (pieces.new.items ≡ pieces.old.items ++ more) × (map (λ p. p.at) more ≡ places.now)
+        × All IsPiece more × (blocks_of_moves turned.1.items ≡ map block_of more)) }
     ensures turned { IfOk result (λ turned. IsTurnedAt filed.now pieces.new.items place made.now turned.0 turned.1.items) }
 {
     let _id = filed.id();

@@ -5,7 +5,7 @@ mod Freed
 mod Holding
 mod Keys
 mod Merging
-mod Metrics
+pub mod Metrics
 mod Moving
-mod Places
+pub mod Places
 mod Taking

@@ -232,6 +232,17 @@ impl Book {
         Ok(())
     }
 
+    /// Makes so many gives sure of their memory, beside what is sure already. After `Memory` all is as before.
+    pub fn reserve_gives(&mut self, gives: usize) -> Result<(), Memory>
+        ensures metrics { self.new.metrics ≡ self.old.metrics }
+        ensures taken { self.new.taken ≡ self.old.taken }
+        ensures spare { self.old.spare ≤ self.new.spare }
+        ensures sure { OnOk result (gives ≤ self.new.spare) }
+    {
+        self.used.reserve(gives as u64)?;
+        Ok(())
+    }
+
     /// Settles a commit of a live metric, whose record is on its disk: the metric is as it is after the
     /// commit, the blocks of before that it moves away from or drops are free, and those at the taken
     /// slots are in use. It takes no memory.

@@ -17,7 +17,7 @@ pub none_read : (size : ℕ) (records : Option (List (List ℕ))) (metrics : Lis
 none_read size None metrics none = tt
 none_read size (Some records) metrics none = record { items = []; each = All-nil IsShelf; are = refl; legal = tt; metrics_are = sym none }
 
-spelled_more : (items : List ShelfItem) (item : ShelfItem) → map shelf_bytes (items ++ item ∷ []) ≡ map shelf_bytes items ++ shelf_bytes item ∷ []
+pub spelled_more : (items : List ShelfItem) (item : ShelfItem) → map shelf_bytes (items ++ item ∷ []) ≡ map shelf_bytes items ++ shelf_bytes item ∷ []
 spelled_more [] item = refl
 spelled_more (x ∷ items) item = ap (λ rs. shelf_bytes x ∷ rs) (spelled_more items item)
 

@@ -3,3 +3,5 @@ pub mod Inside
 pub mod Loading
 pub mod Shelf
 pub mod ShelfView
+pub mod Turn
+pub mod Writing

@@ -1,5 +1,5 @@
 -- What contracts see of a shelf.
-use Rattle.std.specs.Prelude.{◌≡◌, ◌⊎◌, ℕ, ◌+◌, ◌*◌, ◌-◌, ◌^◌, min, ◌==◌, if◌then◌else◌, Bool, List, [], ◌∷◌, map, length, Option, Some, None, IsSome, IfSome, slice_get}
+use Rattle.std.specs.Prelude.{◌≡◌, ◌⊎◌, ℕ, ◌+◌, ◌*◌, ◌-◌, ◌^◌, min, ◌==◌, if◌then◌else◌, Bool, true, false, List, [], ◌∷◌, map, length, Option, Some, None, IsSome, IfSome, slice_get}
 use Rattle.gno_disk.specs.declared.disk.Disk.{Ghosts}
 use Rattle.gno_disk.specs.Phases.{AtExit, EachMoment, Phase, phase}
 use Rattle.archive_policy.specs.Policies.{ArchivePolicy}
@@ -8,10 +8,16 @@ use Rattle.series_model.specs.declared.metric.MetricId.{MetricId}
 use Rattle.series_model.specs.declared.point.Split.{Split}
 use Rattle.bound_series.specs.Jobs.{place_in}
 use Rattle.split_update.specs.Live.{Live}
+use Rattle.gno_num.specs.declared.faults.Damaged.{Damaged as Damage}
+use Rattle.gno_num.specs.declared.faults.DiskFault.{DiskFault as Fault}
+use Rattle.gate_log.specs.LogView.{IsFault, MatchMountFault}
+use Rattle.gate_log.specs.declared.fault.MountFault.{MountFault}
 use Rattle.log_pair.specs.declared.place.Place.{Place}
 use Rattle.log_pair.specs.Pair.{HasNoPair}
 use Rattle.log_pair.specs.PairView.{LeavesNoLog}
+use Rattle.shelf_records.specs.Filed.{splits_of}
 use Rattle.shelf_records.specs.Shelved.{Shelved}
+use Rattle.block_slots.specs.Reads.{IsReadOnly}
 use Rattle.shelf_blocks.specs.Blocks.{HoldsMetrics}
 use Rattle.split_store.specs.Shelf.{HoldsShelf, live_by}
 
@@ -62,9 +68,22 @@ known_by_records m = record {
   keys = map (λ k. map (λ s. s.key) k.splits) m.kept;
 }
 
+-- the greatest accepted timestamp of a metric, if there is one of both
+abbrev pub last_in : Option Shelved → Option ℕ
+last_in None = None
+last_in (Some m) = m.last
+
+-- the keys of the splits of a definition and kind, by rising key
+abbrev pub keys_in : ℕ → Kind → Shelved → List ℕ
+keys_in definition kind m = map (λ s. s.key) (splits_of definition kind m.kept)
+
 -- how often three disks have failed, a number that ends at the last value of its type
 abbrev pub all_faults : {D : Type 0} → Ghosts D → D → D → D → ℕ
 all_faults g a b blocks = min (g.faults a + g.faults b + g.faults blocks) (2 ^ 64 - 1)
+
+-- those of a shelf
+abbrev pub shelf_faults : {D : Type 0} → Ghosts D → ShelfView D → ℕ
+shelf_faults g v = all_faults g v.first v.second v.blocks
 
 -- a call on a shelf works on its blocks first, and then on one disk of its log, or on one after the other
 abbrev pub shelf_phases : {D : Type 0} → ShelfView D → ShelfView D → List (Phase D)
@@ -115,6 +134,31 @@ abbrev pub IsMakingShelf : {D : Type 0} → Ghosts D → Place → D → D → D
 IsMakingShelf g place a b blocks first second synced =
     IsSome (g.told a) → IsSome (g.told b) → IsSome (g.told blocks) → LeavesNoLog g a → LeavesNoLog g b
     → EachMoment g (phase blocks synced ∷ phase b second ∷ phase a first ∷ []) (OfThree (λ y x z. HasNoPair x y ⊎ HoldsShelf place [] x y z))
+
+-- The blocks were read and not written, and the log wasn't touched: the shelf has what it had.
+pub record IsOnlySeen {D : Type 0} (g : Ghosts D) (old new : ShelfView D) : Type 0 where
+  pub place : new.place ≡ old.place
+  pub epoch : new.epoch ≡ old.epoch
+  pub metrics : new.metrics ≡ old.metrics
+  pub first : new.first ≡ old.first
+  pub second : new.second ≡ old.second
+  pub blocks : IsReadOnly g old.blocks new.blocks
+
+-- A call failed by a fault of a disk, and the shelf is broken.
+pub record HasFailed {D : Type 0} (g : Ghosts D) (old new : ShelfView D) (f : Fault) : Type 0 where
+  pub fault : IsFault (shelf_faults g old) (shelf_faults g new) f
+  pub broken : new.broken ≡ true
+
+-- A call found damage at this place of the blocks, and the shelf is broken. It keeps no live metrics.
+pub record HasDamage {D : Type 0} (g : Ghosts D) (IsDamage : List ℕ → ℕ → Type 0) (old new : ShelfView D) (d : Damage) : Type 0 where
+  pub disk : d.disk ≡ 2
+  pub at : IfSome (g.told old.blocks) (λ bytes. IsDamage bytes d.at)
+  pub broken : new.broken ≡ true
+  pub none : (lives : List Live) → Keeps g old lives → ⊥
+
+-- why a call that reads blocks failed: a disk, damage in the blocks, or memory, after which the shelf isn't broken
+abbrev pub IsCause : {D : Type 0} → Ghosts D → (List ℕ → ℕ → Type 0) → ShelfView D → ShelfView D → MountFault → Type 0
+IsCause g IsDamage old new e = MatchMountFault e (HasFailed g old new) (HasDamage g IsDamage old new) (new.broken ≡ false)
 
 -- ---- the splits of a metric
 

@@ -3,8 +3,12 @@
 #![tactic(auto)]
 
 mod load;
+mod reading;
+mod registering;
 mod shelf;
 #[cfg(test)]
 mod tests;
+mod turn;
+mod write;
 
 pub use shelf::Shelf;

@@ -1,10 +1,10 @@
 // What the records of a log make.
-ghost use Rattle.std.specs.Prelude.{◌≡◌, ◌<◌, ◌≤◌, ◌+◌, ◌^◌, ⊤, [], IfOk, IfErr, IfSome, OnOk, take, false, true};
+ghost use Rattle.std.specs.Prelude.{◌≡◌, ◌<◌, ◌≤◌, ◌+◌, ◌^◌, ⊤, [], All, IfOk, IfErr, IfSome, OnOk, take, false, true};
 ghost use Rattle.gate_log.specs.LogView.{IsFault, MatchMountFault};
 ghost use Rattle.log_pair.specs.PairView.{both_faults};
 ghost use Rattle.pair_reading.specs.Reading.{IsOddOf, IsOnlyRead};
 ghost use Rattle.shelf_records.specs.Shelved.{AreBlocks};
-ghost use Rattle.split_store.specs.Loading.{AreRecordsOf, IsOddBehind};
+ghost use Rattle.split_store.specs.Loading.{AreRecordsOf, IsOddBehind, IsSound};
 
 use gno_codec::{ReadFault, read_shelf};
 use gno_disk::Disk;
@@ -20,6 +20,7 @@ pub fn load<D: Disk>(alloc: Global, pair: &mut LogPair<D>, size: u64) -> Result<
     requires size { size ≤ 2 ^ 60 }
     ensures taken { IfOk result (λ book. book.taken ≡ []) }
     ensures blocks { IfOk result (λ book. AreBlocks size book.metrics) }
+    ensures sound { IfOk result (λ book. All IsSound book.metrics) }
     ensures are { IfOk result (λ book. IfSome pair.old.records (AreRecordsOf size book.metrics)) }
     ensures reads { IsOnlyRead D.Disk pair.old pair.new }
     ensures whole { OnOk result (pair.new.broken ≡ false) }
@@ -53,9 +54,11 @@ fn load_one<D: Disk>(
     requires size { size ≤ 2 ^ 60 }
     requires none { book.taken ≡ [] }
     requires blocks { AreBlocks size book.metrics }
+    requires sound { All IsSound book.metrics }
     requires are { IfSome pair.old.records (λ records. AreRecordsOf size book.metrics (take index records)) }
     ensures taken { IfOk result (λ new. new.taken ≡ []) }
     ensures blocks { IfOk result (λ new. AreBlocks size new.metrics) }
+    ensures sound { IfOk result (λ new. All IsSound new.metrics) }
     ensures are { IfOk result (λ new. IfSome pair.old.records (λ records. AreRecordsOf size new.metrics (take (index + 1) records))) }
     ensures reads { IsOnlyRead D.Disk pair.old pair.new }
     ensures whole { OnOk result (pair.new.broken ≡ false) }
@@ -69,11 +72,15 @@ fn load_one<D: Disk>(
         Err(fault) => return Err(fault),
     };
     match read_shelf(alloc, &body) {
-        Ok(item) => match book.follow(alloc, item, size) {
-            Ok(book) => Ok(book),
-            Err(FollowFault::Damaged) => Err(MountFault::Damaged(pair.place_of(index))),
-            Err(FollowFault::Memory) => Err(MountFault::Memory),
-        },
+        Ok(item) => {
+            // the identifiers rise
+            let _ids = book.metrics();
+            match book.follow(alloc, item, size) {
+                Ok(book) => Ok(book),
+                Err(FollowFault::Damaged) => Err(MountFault::Damaged(pair.place_of(index))),
+                Err(FollowFault::Memory) => Err(MountFault::Memory),
+            }
+        }
         Err(ReadFault::Bad { at: _ }) => Err(MountFault::Damaged(pair.place_of(index))),
         Err(ReadFault::Memory) => Err(MountFault::Memory),
     }

@@ -1,20 +1,29 @@
 // The live metrics of a sack on its disks.
-ghost use Rattle.std.specs.Prelude.{◌≡◌, ⊤, [], ◌∷◌, List, ℕ, IfOk, IfErr, IfSome, IsSome, is_some, length, map, false};
+ghost use Rattle.std.specs.Prelude.{◌≡◌, ⊤, [], ◌∷◌, List, ℕ, IfOk, IfErr, IfSome, IsSome, MatchOption, None, OnErr, OnOk, Some, is_some, length, map, option_map, false};
 ghost use Rattle.std.specs.List.Sorted.{IsStrictlyIncreasing};
 ghost use Rattle.gno_disk.specs.Phases.{AreUnwritten, phase};
 ghost use Rattle.gate_log.specs.LogView.{IsFault, MatchFault, MatchMountFault};
-ghost use Rattle.split_update.specs.Live.{Live};
+ghost use Rattle.split_update.specs.Live.{Live, live_from_scratch};
+ghost use Rattle.gno_codec.specs.declared.item.ShelfItem.TheVariants as items;
 ghost use Rattle.gno_codec.specs.declared.item.ShelfItem.{ShelfItem};
-ghost use Rattle.shelf_records.specs.Shelved.{after_records};
-ghost use Rattle.split_store.specs.Damage.{IsDamagedShelf};
-ghost use Rattle.split_store.specs.Shelf.{HasNoShelfLog, HasShelfLog, HoldsShelf, IsShelfLog, shelf_place};
-ghost use Rattle.split_store.specs.ShelfView.{IsLastingShelf, IsMakingShelf, Keeps, ThreeTold, all_faults};
+ghost use Rattle.shelf_records.specs.Shelved.{Shelved, after_record, after_records, metric_of};
+ghost use Rattle.sack_history.specs.Scratch.{commit_live, with_live, without_live};
+ghost use Rattle.split_store.specs.Turn.{IsCommitted, WritesBlocks};
+ghost use Rattle.split_store.specs.Damage.{HasOddChunk, HasOddSplit, HasOddSplits, IsDamagedShelf};
+ghost use Rattle.split_store.specs.Shelf.{HasNoShelfLog, HasShelfLog, HoldsShelf, IsShelfLog, live_by, shelf_place};
+ghost use Rattle.split_store.specs.ShelfView.{HasFailed, IsCause, IsChanged, IsKeptAs, IsLastingShelf, IsMakingShelf, IsOldOrChanged, IsOnlySeen, Keeps, LeavesOldOrChanged, ThreeTold, all_faults, keys_in, last_in, shelf_faults, stored_split};
 
 use crate::load::load;
+use crate::reading::{breaks, fault_of, faults_of, keys_of, raw_in, split_in};
+use crate::registering::{prepare_drop, prepare_register, write_record};
+use crate::turn::turn_in;
+use crate::write::write_turn;
+use archive_policy::{Kind, Policy};
+use bound_series::{Prepared, Raw};
 use gno_disk::Disk;
-use gno_num::DiskFault;
+use gno_num::{DiskFault, Failed, Memory, Stamp};
 use log_pair::{LogFault, LogPair, MountFault, Place};
-use series_model::MetricId;
+use series_model::{MetricId, Split};
 use shelf_records::Book;
 use std::alloc::Global;
 use std::marker::Model;
@@ -216,6 +225,253 @@ impl<D: Disk> Shelf<D> {
         ensures rising { IsStrictlyIncreasing (map (λ m. m.id.0) self.now.metrics) }
     {
         self.book.metrics()
+    }
+
+    /// How often its disks have failed, at most 2^64 - 1.
+    pub fn faults(&self) -> u64
+        ensures { result ≡ shelf_faults D.Disk self.now }
+    {
+        faults_of(&self.pair, &self.blocks)
+    }
+
+    /// The policy of a live metric.
+    pub fn policy_of(&self, metric: MetricId) -> Option<&Policy>
+        ensures { MatchOption result (metric_of metric self.now.metrics ≡ None)
+            (λ policy. option_map (λ m. m.policy) (metric_of metric self.now.metrics) ≡ Some policy.now) }
+    {
+        match self.book.get(metric) {
+            Some(filed) => Some(filed.policy()),
+            None => None,
+        }
+    }
+
+    /// The done number of a live metric.
+    pub fn done_of(&self, metric: MetricId) -> Option<u64>
+        ensures { result ≡ option_map (λ m. m.done) (metric_of metric self.now.metrics) }
+    {
+        match self.book.get(metric) {
+            Some(filed) => Some(filed.done()),
+            None => None,
+        }
+    }
+
+    /// The greatest accepted timestamp of a metric; none where it isn't live, or nothing was accepted.
+    pub fn last_of(&self, metric: MetricId) -> Option<Stamp>
+        ensures { result ≡ last_in (metric_of metric self.now.metrics) }
+    {
+        match self.book.get(metric) {
+            Some(filed) => filed.last(),
+            None => None,
+        }
+    }
+
+    /// The keys of the stored splits of a live metric, for the policy's definition at this place and a kind, by
+    /// rising key; there are none where the policy hasn't these.
+    pub fn keys(&self, metric: MetricId, definition: u8, kind: Kind) -> Option<&[Stamp]>
+        ensures { MatchOption result (metric_of metric self.now.metrics ≡ None)
+            (λ keys. option_map (λ m. keys_in definition kind m) (metric_of metric self.now.metrics) ≡ Some keys.now) }
+    {
+        match self.book.get(metric) {
+            Some(filed) => Some(keys_of(filed, definition, kind)),
+            None => None,
+        }
+    }
+
+    /// The raw series of a live metric. After `Memory` all is as before.
+    pub fn raw_of(&mut self, alloc: Global, metric: MetricId) -> Result<Raw, MountFault>
+        requires whole { self.old.broken ≡ false }
+        requires live { IsSome (metric_of metric self.old.metrics) }
+        ensures raw { IfOk result (λ raw. (lives : List Live) → Keeps D.Disk self.old lives
+            → option_map (λ l. l.raw) (live_by metric lives) ≡ Some raw) }
+        ensures whole { OnOk result (self.new.broken ≡ false) }
+        ensures seen { IsOnlySeen D.Disk self.old self.new }
+        ensures left { IsLastingShelf D.Disk self.new }
+        ensures cause { IfErr result (IsCause D.Disk (HasOddChunk self.old.metrics metric) self.old self.new) }
+    {
+        let before = faults_of(&self.pair, &self.blocks);
+        match raw_in(alloc, &mut self.blocks, &self.book, metric) {
+            Ok(raw) => Ok(raw),
+            Err(fault) => {
+                self.damaged = breaks(&fault);
+                Err(fault_of(fault, before, faults_of(&self.pair, &self.blocks)))
+            }
+        }
+    }
+
+    /// The stored split of a live metric with this key, for the policy's definition at this place and a kind, if
+    /// it is stored. After `Memory` all is as before.
+    pub fn read_split(
+        &mut self,
+        alloc: Global,
+        metric: MetricId,
+        definition: u8,
+        kind: Kind,
+        key: Stamp,
+    ) -> Result<Option<Split>, MountFault>
+        requires whole { self.old.broken ≡ false }
+        requires live { IsSome (metric_of metric self.old.metrics) }
+        ensures split { IfOk result (λ split. (lives : List Live) → Keeps D.Disk self.old lives
+            → split ≡ stored_split metric definition kind key lives) }
+        ensures whole { OnOk result (self.new.broken ≡ false) }
+        ensures seen { IsOnlySeen D.Disk self.old self.new }
+        ensures left { IsLastingShelf D.Disk self.new }
+        ensures cause { IfErr result (IsCause D.Disk (HasOddSplit self.old.metrics metric definition kind key) self.old self.new) }
+    {
+        let before = faults_of(&self.pair, &self.blocks);
+        match split_in(
+            alloc,
+            &mut self.blocks,
+            &self.book,
+            metric,
+            definition,
+            kind,
+            key,
+        ) {
+            Ok(split) => Ok(split),
+            Err(fault) => {
+                self.damaged = breaks(&fault);
+                Err(fault_of(fault, before, faults_of(&self.pair, &self.blocks)))
+            }
+        }
+    }
+
+    /// A metric is live from now on, with this policy and this done number, and without measures. After `Memory`
+    /// all is as before.
+    pub fn register(
+        &mut self,
+        alloc: Global,
+        metric: MetricId,
+        policy: &Policy,
+        done: u64,
+    ) -> Result<(), LogFault>
+        requires whole { self.old.broken ≡ false }
+        requires absent { metric_of metric self.old.metrics ≡ None }
+        ensures metrics { OnOk result (self.new.metrics ≡ after_record self.old.metrics (items.Register metric done policy.now)) }
+        ensures changed { OnOk result (IsChanged D.Disk (with_live (live_from_scratch metric policy.now done [])) self.old self.new) }
+        ensures kept { OnErr result ((self.new.metrics ≡ self.old.metrics) × IsKeptAs D.Disk self.old self.new) }
+        ensures same { (self.new.place ≡ self.old.place) × (self.new.epoch ≡ self.old.epoch) × (self.new.blocks ≡ self.old.blocks) }
+        ensures whole { OnOk result (self.new.broken ≡ false) }
+        ensures came { D.came 4 self.old.first self.new.first × D.came 4 self.old.second self.new.second }
+
+        // At every moment a stop leaves the metrics without the new one, or with it; so it does at the exit.
+        ensures any_moment { IsOldOrChanged D.Disk (with_live (live_from_scratch metric policy.now done [])) self.old self.new }
+        ensures left { LeavesOldOrChanged D.Disk (with_live (live_from_scratch metric policy.now done [])) self.old self.new }
+        ensures durable { OnOk result (IsLastingShelf D.Disk self.new) }
+
+        ensures cause { IfErr result (λ e. MatchFault e (HasFailed D.Disk self.old self.new) (self.new ≡ self.old)) }
+    {
+        let before = faults_of(&self.pair, &self.blocks);
+        let (body, filed) = match prepare_register(
+            alloc,
+            &mut self.pair,
+            &mut self.book,
+            metric,
+            policy,
+            done,
+        ) {
+            Ok(ready) => ready,
+            Err(Memory) => return Err(LogFault::Memory),
+        };
+        match write_record(&mut self.pair, &body) {
+            Ok(()) => {
+                self.book.register(filed);
+                Ok(())
+            }
+            Err(Failed) => {
+                let after = faults_of(&self.pair, &self.blocks);
+                Err(LogFault::DiskFault(DiskFault { before, after }))
+            }
+        }
+    }
+
+    /// A metric is live no longer, and its blocks are free. After `Memory` all is as before.
+    pub fn drop_metric(&mut self, alloc: Global, metric: MetricId) -> Result<(), LogFault>
+        requires whole { self.old.broken ≡ false }
+        requires live { IsSome (metric_of metric self.old.metrics) }
+        ensures metrics { OnOk result (self.new.metrics ≡ after_record self.old.metrics (items.Drop metric)) }
+        ensures changed { OnOk result (IsChanged D.Disk (without_live metric) self.old self.new) }
+        ensures kept { OnErr result ((self.new.metrics ≡ self.old.metrics) × IsKeptAs D.Disk self.old self.new) }
+        ensures same { (self.new.place ≡ self.old.place) × (self.new.epoch ≡ self.old.epoch) × (self.new.blocks ≡ self.old.blocks) }
+        ensures whole { OnOk result (self.new.broken ≡ false) }
+        ensures came { D.came 4 self.old.first self.new.first × D.came 4 self.old.second self.new.second }
+
+        // At every moment a stop leaves the metrics with this one, or without it; so it does at the exit.
+        ensures any_moment { IsOldOrChanged D.Disk (without_live metric) self.old self.new }
+        ensures left { LeavesOldOrChanged D.Disk (without_live metric) self.old self.new }
+        ensures durable { OnOk result (IsLastingShelf D.Disk self.new) }
+
+        ensures cause { IfErr result (λ e. MatchFault e (HasFailed D.Disk self.old self.new) (self.new ≡ self.old)) }
+    {
+        let before = faults_of(&self.pair, &self.blocks);
+        let body = match prepare_drop(alloc, &mut self.pair, &mut self.book, metric) {
+            Ok(body) => body,
+            Err(Memory) => return Err(LogFault::Memory),
+        };
+        match write_record(&mut self.pair, &body) {
+            Ok(()) => {
+                self.book.drop_metric(metric);
+                Ok(())
+            }
+            Err(Failed) => {
+                let after = faults_of(&self.pair, &self.blocks);
+                Err(LogFault::DiskFault(DiskFault { before, after }))
+            }
+        }
+    }
+
+    /// Commits the prepared work of a live metric: its raw series and the splits that are new are written to free
+    /// slots, the blocks are synced, and one record is added. Blocks that fall free may be used from then on. It
+    /// reads the splits that the work touches, and no others. After `Memory` all is as before.
+    pub fn commit(&mut self, alloc: Global, prepared: &Prepared) -> Result<(), MountFault>
+        requires whole { self.old.broken ≡ false }
+        requires live { IsSome (metric_of prepared.now.job.metric self.old.metrics) }
+        requires policy { (m : Shelved) → metric_of prepared.now.job.metric self.old.metrics ≡ Some m → prepared.now.job.policy ≡ m.policy }
+        ensures committed { OnOk result (IsCommitted prepared.now self.old.metrics self.new.metrics) }
+        ensures changed { OnOk result (IsChanged D.Disk (commit_live prepared.now.job.metric prepared.now) self.old self.new) }
+        ensures kept { OnErr result ((self.new.metrics ≡ self.old.metrics) × IsKeptAs D.Disk self.old self.new) }
+        ensures same { (self.new.place ≡ self.old.place) × (self.new.epoch ≡ self.old.epoch) }
+        ensures whole { OnOk result (self.new.broken ≡ false) }
+        ensures came { D.came 4 self.old.first self.new.first × D.came 4 self.old.second self.new.second }
+        ensures writes { WritesBlocks D.Disk self.old.metrics prepared.now self.old.blocks self.new.blocks }
+
+        // At every moment a stop leaves the metrics as they were, or with this one as it is after the commit; so it
+        // does at the exit. While the blocks are written, it leaves the metrics as they were.
+        ensures any_moment { IsOldOrChanged D.Disk (commit_live prepared.now.job.metric prepared.now) self.old self.new }
+        ensures left { LeavesOldOrChanged D.Disk (commit_live prepared.now.job.metric prepared.now) self.old self.new }
+        ensures durable { OnOk result (IsLastingShelf D.Disk self.new) }
+
+        ensures cause { IfErr result (IsCause D.Disk (HasOddSplits self.old.metrics prepared.now.job.metric) self.old self.new) }
+        // After damage or want of memory nothing was written.
+        ensures seen { IfErr result (λ e. MatchMountFault e (λ f. ⊤) (λ d. IsOnlySeen D.Disk self.old self.new) (IsOnlySeen D.Disk self.old self.new)) }
+    {
+        let _ids = self.book.metrics();
+        let before = faults_of(&self.pair, &self.blocks);
+        let mut turn = match turn_in(
+            alloc,
+            &mut self.blocks,
+            &mut self.pair,
+            &mut self.book,
+            prepared,
+        ) {
+            Ok(turn) => turn,
+            Err(fault) => {
+                self.damaged = breaks(&fault);
+                let after = faults_of(&self.pair, &self.blocks);
+                return Err(fault_of(fault, before, after));
+            }
+        };
+        match write_turn(&mut self.blocks, &mut self.pair, &mut turn) {
+            Ok(()) => {
+                self.book.settle(turn.item, turn.series);
+                Ok(())
+            }
+            Err(Failed) => {
+                self.book.release();
+                self.damaged = true;
+                let after = faults_of(&self.pair, &self.blocks);
+                Err(MountFault::DiskFault(DiskFault { before, after }))
+            }
+        }
     }
 
     /// Its disks, in the order in which they were handed in.

@@ -1,6 +1,11 @@
 use Rattle.std.proofs.Common.{rules, ◌≡◌, ◌+◌, ◌++◌, ◌∷◌, [], ℕ, List, vec_len, length, map, take, drop, Some, refl, sym, ap, subst, ◌∙◌, arith, append_assoc, length-drop, take-append-drop}
 use Rattle.std.proofs.lemmas.List.{append-nil, drop_all, length-take-le, map-append, take_all, take_more}
+use Rattle.std.specs.List.{flat_map}
+use Rattle.std.proofs.lemmas.List.Concat.{flat_map-append}
+use Rattle.std.proofs.lemmas.List.Elements.{All-append, All-nil}
 use Rattle.std.proofs.lemmas.Option.{slice_get-get_or}
+use Rattle.shelf_records.specs.Moves.{blocks_of_moves}
+use Rattle.shelf_blocks.specs.Pieces.{IsPiece, block_of}
 use Rattle.shelf_records.specs.declared.moves.Move.{Move}
 use Rattle.shelf_records.specs.declared.series.Stored.{Stored}
 use Rattle.block_slots.specs.declared.slots.Piece.{Piece}
@@ -11,7 +16,7 @@ use Rattle.shelf_blocks.proofs.turned.turn_all.Goals as goal
 
 pub loop-place-init : goal.loop-place-init
 loop-place-init c = record {
-  pieces = ([], sym (append-nil c.args.pieces.now.items), refl);
+  pieces = ([], sym (append-nil c.args.pieces.now.items), refl, All-nil IsPiece, ap (λ ms. flat_map blocks_of_moves (map (λ own. own.items) ms)) c.in_ok-moves.ensures.items);
   left = c.requires.places;
   turned = subst (λ (ss : List (List Stored)). AreTurned c.args.filed.now c.args.pieces.now.items 0 [] ss (map (λ own. own.items) c.in_ok-moves.moves.items)) (sym c.in_ok-series.ensures.items)
       (subst (λ ms. AreTurned c.args.filed.now c.args.pieces.now.items 0 [] [] (map (λ own. own.items) ms)) (sym c.in_ok-moves.ensures.items) tt);
@@ -63,6 +68,10 @@ loop-place-preserved c =
             ∙ ap (λ ns. (map (λ (p : Piece). p.at) more.0 ++ take n rest) ++ ns) back
             ∙ append_assoc (map (λ (p : Piece). p.at) more.0) (take n rest) (drop n rest)
             ∙ ap (λ ns. map (λ (p : Piece). p.at) more.0 ++ ns) (take-append-drop n rest) ∙ more.2,
+        All-append IsPiece more.0 next.0 more.3 next.3,
+        ap (λ os. flat_map blocks_of_moves (map (λ own. own.items) os)) moves ∙ ap (flat_map blocks_of_moves) (map-append (λ own. own.items) c.loop-place.moves.items (moved ∷ []))
+            ∙ flat_map-append blocks_of_moves (map (λ own. own.items) c.loop-place.moves.items) (moved.items ∷ []) ∙ ap (λ bs. bs ++ (blocks_of_moves moved.items ++ [])) more.4
+            ∙ ap (λ bs. map block_of more.0 ++ bs) (append-nil (blocks_of_moves moved.items) ∙ next.4) ∙ sym (map-append block_of more.0 next.0),
       );
       left = (let l = inv.left in omega (arith, ap length back, length-drop n rest, l, count_left all i made lt c.index-all-place.is, long));
       turned = subst (λ (l : List Made). AreTurned m new 0 l c.push.new.self.items (map (λ own. own.items) c.push-in-loop-place.new.self.items)) (sym taken)
@@ -78,7 +87,7 @@ returns-clause-pieces c =
     let none = drop_all c.loop-place.place c.args.all.now (omega (arith, end)) in
     let left = inv.left in
     let empty : length c.loop-place.rest.now ≡ 0 = left ∙ ap made_count none in
-    (inv.pieces.0, inv.pieces.1, sym (append-nil (map (λ (p : Piece). p.at) inv.pieces.0)) ∙ ap (λ ns. map (λ (p : Piece). p.at) inv.pieces.0 ++ ns) (sym (no_items c.loop-place.rest.now empty)) ∙ inv.pieces.2)
+    (inv.pieces.0, inv.pieces.1, sym (append-nil (map (λ (p : Piece). p.at) inv.pieces.0)) ∙ ap (λ ns. map (λ (p : Piece). p.at) inv.pieces.0 ++ ns) (sym (no_items c.loop-place.rest.now empty)) ∙ inv.pieces.2, inv.pieces.3, inv.pieces.4)
 
 pub returns-clause-turned : goal.returns-clause-turned
 returns-clause-turned c =

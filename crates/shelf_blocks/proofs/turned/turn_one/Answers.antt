@@ -9,7 +9,7 @@ use Rattle.shelf_records.specs.declared.series.Stored.{Stored}
 use Rattle.split_update.specs.Update.{AreSplits}
 use Rattle.shelf_blocks.specs.Pieces.{AreSplitPieces}
 use Rattle.shelf_blocks.proofs.MakeLemmas.{found}
-use Rattle.shelf_blocks.proofs.TurnedLemmas.{all_turned, at_place, defined_at, in_bounds, stored_keys}
+use Rattle.shelf_blocks.proofs.TurnedLemmas.{all_turned, at_place, defined_at, in_bounds, pieces_added, stored_keys}
 use Rattle.shelf_blocks.proofs.turned.turn_one.Goals as goal
 
 pub offset_bounds-definitions-place : goal.offset_bounds-definitions-place
@@ -107,4 +107,13 @@ returns-clause-turned c =
     let is = c.deref-2.ensures.value in
     let t = c.turned.ensures in
     all_turned c.turned.result (λ t. t.0) (λ t. t.1.items) m c.args.place made there.it d c.args.places.now c.args.pieces.now.items given.0 c.add_split_pieces.new.pieces.items c.deref-2.result.now now
-    there.is there.has of given.1 (subst (λ l. AreSplitPieces d.granularity made.splits.items c.args.places.now given.0 l) (sym is) written) t.series t.leads t.rising t.blocks
+    there.is there.has of given.1 (subst (λ l. AreSplitPieces d.granularity made.splits.items c.args.places.now given.0 l) (sym is) written) t.series t.leads t.rising t.made t.gone t.blocks
+
+pub returns-clause-pieces : goal.returns-clause-pieces
+returns-clause-pieces c =
+    let kinds = c.kinds-kinds.result.now in
+    let ds = c.definitions.result.now in
+    let d = slice_index_or ds (c.args.place / length kinds) c.index-definitions-place.result in
+    let given = c.in_ok-stored.ensures in
+    let written = subst (λ l. AreSplitPieces d.granularity c.deref.result.now c.args.places.now given.0 l) (sym c.deref-2.ensures.value) given.2 in
+    pieces_added c.turned.result (λ t. t.1.items) d.granularity c.deref.result.now c.args.places.now c.args.pieces.now.items given.0 c.add_split_pieces.new.pieces.items c.deref-2.result.now given.1 written c.turned.ensures.blocks

@@ -2,7 +2,9 @@ use Rattle.std.proofs.Common.{sym, subst, ◌∙◌}
 use Rattle.pair_reading.proofs.ReadLemmas.{odd_at}
 use Rattle.shelf_records.specs.Shelved.{AreBlocks, MayFollow, after_record}
 use Rattle.split_store.specs.Damage.IsOddRecord.{unfit}
-use Rattle.split_store.specs.Loading.{IsOddBehind}
+use Rattle.std.specs.Prelude.{All}
+use Rattle.split_store.specs.Loading.{IsOddBehind, IsSound}
+use Rattle.split_store.proofs.Sound.{sound_after}
 use Rattle.split_store.proofs.LoadLemmas.{odd_behind, read_more}
 use Rattle.split_store.proofs.load.load_one.Goals as goal
 
@@ -12,6 +14,11 @@ returns-in-Ok-follow-clause-are g c =
     let legal = c.in-Ok-follow.ensures.legal in
     read_more c.args.size c.args.index c.in-Ok.body.items c.in-Ok-read_shelf.item c.args.book.metrics c.in-Ok-follow.book.metrics c.args.pair.now.records
     c.in-Ok.ensures.asked c.requires.are found.0 (sym c.deref.ensures.value ∙ found.1) legal.0 legal.1 c.in-Ok-follow.ensures.ok
+
+pub returns-in-Ok-follow-clause-sound : goal.returns-in-Ok-follow-clause-sound
+returns-in-Ok-follow-clause-sound g c =
+    let legal = c.in-Ok-follow.ensures.legal in
+    subst (All IsSound) (sym c.in-Ok-follow.ensures.ok) (sound_after c.args.book.metrics c.in-Ok-read_shelf.item c.metrics-ids.ensures.rising c.requires.sound legal.0)
 
 pub returns-in-Err-Damaged-clause-cause : goal.returns-in-Err-Damaged-clause-cause
 returns-in-Err-Damaged-clause-cause g c =

@@ -1,0 +1,10 @@
+pub mod Command
+pub mod Fault
+pub mod Flag
+pub mod Given
+pub mod Make
+pub mod Number
+pub mod Plan
+pub mod Setting
+pub mod Status
+pub mod Verb

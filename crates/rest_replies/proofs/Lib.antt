@@ -1,0 +1,9 @@
+pub mod CodeLemmas
+pub mod CutLemmas
+pub mod HeadLemmas
+pub mod JsonLemmas
+pub mod ReplyLineLemmas
+pub mod ResponseLemmas
+pub mod ScriptLemmas
+pub mod SpaceLemmas
+pub mod StatusLemmas

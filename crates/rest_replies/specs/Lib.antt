@@ -1,0 +1,11 @@
+pub mod Code
+pub mod Error
+pub mod ErrorBody
+pub mod ErrorValue
+pub mod Faults
+pub mod Handled
+pub mod Pieces
+pub mod ReplyLine
+pub mod Response
+pub mod Script
+pub mod Status
