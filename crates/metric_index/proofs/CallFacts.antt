@@ -7,7 +7,9 @@ use Rattle.gno_disk.specs.Phases.{phase}
 use Rattle.gno_disk.specs.declared.disk.Disk.{Ghosts}
 use Rattle.gno_disk.proofs.PhaseLemmas.{EachMoment-exit}
 use Rattle.gno_num.specs.declared.faults.DiskFault.{DiskFault as Fault}
-use Rattle.front_api.specs.Calls.{AddsTo, AppliesTo, IsByName, RefusedCall, failed, named, spent, starved}
+use Rattle.archive_policy.specs.Policies.{ArchivePolicy}
+use Rattle.front_api.specs.Calls.{AddsTo, AppliesTo, BeginsOn, IsByName, RefusedCall, failed, named, spent, starved}
+use Rattle.front_api.specs.FaultWords.{is_control_damage}
 use Rattle.front_api.specs.declared.command.Command.{Command}
 use Rattle.front_api.specs.declared.command.Command.TheVariants as commands
 use Rattle.front_api.specs.declared.command.MetricDoc.{MetricDoc}
@@ -21,6 +23,7 @@ use Rattle.front_api.specs.declared.history.IndexEntry.TheVariants as entries
 use Rattle.front_api.specs.Maps.{Maps, is_change, is_drawn, is_policy_in_use, is_resource_in_use, metric_in, metric_to, policy_to, resource_to, rule_to}
 use Rattle.front_api.specs.Tables.{has}
 use Rattle.front_api.specs.Replies.{IsRefusedMetric, doc_refusal, metric_refusal, no_rule, of_policy, or_else, place_refusal, refusal_of, reply_of, unless, where_true}
+use Rattle.series_model.specs.declared.metric.MetricId.{MetricId}
 use Rattle.log_pair.specs.PairView.{OfTwo}
 use Rattle.metric_index.specs.BookCalls.{AreOldOrWritten, IsAt, LeavesBook, MatchDisk, MatchWrite, counted_entry, entry_by, refusal_entry, state_by, written_by}
 use Rattle.metric_index.specs.BookView.{BookView, IsLastingBook}
@@ -253,3 +256,41 @@ pub added_does : (doc : MetricDoc) (m : Maps) (r : Result (Unit {0}) ControlFaul
 added_does doc m (Ok done) P Q none cause = (none, refl)
 added_does doc m (Err fault) P Q none cause =
     refused_write (λ f. doc_refusal m doc ≡ Some f) (λ at. ⊥) (λ c. (doc_refusal m doc ≡ None) × (c ≡ counted.Add doc)) (Some (counted.Add doc)) (counted.Add doc) fault P Q refl (none, refl) cause
+
+-- ---- no refusal of a book says that bytes were damaged
+
+by_name_sound : (fault : ControlFault) → IsByName fault → is_control_damage fault ≡ false
+by_name_sound (faults.Spent s) is = absurd is
+by_name_sound (faults.DiskFault f) is = absurd is
+by_name_sound (faults.Damaged d) is = absurd is
+by_name_sound faults.Memory is = absurd is
+by_name_sound faults.PolicyExists is = refl
+by_name_sound faults.PolicyUnknown is = refl
+by_name_sound faults.PolicyInUse is = refl
+by_name_sound faults.RuleExists is = refl
+by_name_sound faults.RuleUnknown is = refl
+by_name_sound faults.NoRule is = refl
+by_name_sound faults.NameTaken is = refl
+by_name_sound faults.MetricUnknown is = refl
+by_name_sound faults.ResourceExists is = refl
+by_name_sound faults.ResourceUnknown is = refl
+by_name_sound faults.ResourceInUse is = refl
+by_name_sound (faults.IdTaken id) is = refl
+
+refused_sound : (n : ControlFault → Type 0) (sp : ℕ → Type 0) (w : IndexCounted → Type 0) (fault : ControlFault) (own : List IndexEntry) → RefusedCall n sp w fault own → is_control_damage fault ≡ false
+refused_sound n sp w fault own (named f is holds) = by_name_sound f is
+refused_sound n sp w fault own (spent at is) = refl
+refused_sound n sp w fault own starved = refl
+refused_sound n sp w fault own (failed c before after holds) = refl
+
+pub applied_sound : (command : Command) (m : Maps) (own : List IndexEntry) (result : Result Reply ControlFault) → AppliesTo command m own result → IfErr result (λ e. is_control_damage e ≡ false)
+applied_sound command m own (Ok reply) does = tt
+applied_sound command m own (Err fault) does = refused_sound _ _ _ fault own does
+
+pub begun_sound : (policy name : Option (List ℕ)) (resource : Option ℕ) (m : Maps) (own : List IndexEntry) (result : Result (MetricId × ArchivePolicy) ControlFault) → BeginsOn policy name resource m own result → IfErr result (λ e. is_control_damage e ≡ false)
+begun_sound policy name resource m own (Ok drawn) does = tt
+begun_sound policy name resource m own (Err fault) does = refused_sound _ _ _ fault own does
+
+pub added_sound : (doc : MetricDoc) (m : Maps) (own : List IndexEntry) (result : Result (Unit {0}) ControlFault) → AddsTo doc m own result → IfErr result (λ e. is_control_damage e ≡ false)
+added_sound doc m own (Ok done) does = tt
+added_sound doc m own (Err fault) does = refused_sound _ _ _ fault own does

@@ -13,9 +13,9 @@ module _ {D : Type 0} (g : Ghosts D) (old : Option (Held D)) (a b : D) (disks : 
   taken_by sacks (Ok t) has = mounted_anew a b disks broken has.0 has.1
   taken_by sacks (Err e) has = tt
 
-  pub apart_by : {X : Type 0} (r : Result X MountFault) (new : Option (Held D)) → IfErr r (StaysApart g (Some (Apart a b)) new) → IfErr r (StaysApart g old new)
-  apart_by (Ok t) new has = tt
-  apart_by (Err e) new has = record {
+  pub apart_by : {X : Type 0} (sacks : ℕ) (r : Result X MountFault) (new : Option (Held D)) → IfErr r (StaysApart g sacks (Some (Apart a b)) new) → IfErr r (StaysApart g sacks old new)
+  apart_by sacks (Ok t) new has = tt
+  apart_by sacks (Err e) new has = record {
     a = has.a;
     b = has.b;
     first = has.first;
@@ -29,6 +29,7 @@ module _ {D : Type 0} (g : Ghosts D) (old : Option (Held D)) (a b : D) (disks : 
     tells_first = has.tells_first;
     tells_second = has.tells_second;
     cause = has.cause;
+    never = has.never;
   }
 
 pub broken_book : {D : Type 0} (old : Option (Held D)) (book : BookView D) (a b : D) → old ≡ Some (Mounted book) → a ≡ book.first → b ≡ book.second → disks_in old ≡ a ∷ b ∷ []

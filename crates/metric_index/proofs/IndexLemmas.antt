@@ -16,6 +16,7 @@ use Rattle.front_api.specs.declared.fault.ControlFault.TheVariants as faults
 use Rattle.front_api.specs.declared.history.IndexCounted.{IndexCounted}
 use Rattle.front_api.specs.declared.history.IndexEntry.{IndexEntry}
 use Rattle.front_api.specs.declared.history.IndexEntry.TheVariants as entries
+use Rattle.front_api.specs.FaultWords.{is_control_damage}
 use Rattle.front_api.specs.IndexHistory.{IndexState, MayAllFollow, at_rest, state_of}
 use Rattle.front_api.specs.Maps.{Maps}
 use Rattle.metric_index.specs.BookCalls.{AreOldOrWritten, IsAt, LeavesBook, MatchDisk, entry_by, state_by}
@@ -24,7 +25,7 @@ use Rattle.metric_index.specs.declared.holding.Held.{Held}
 use Rattle.metric_index.specs.declared.holding.Held.TheVariants.{Mounted, Apart}
 use Rattle.metric_index.specs.Holding.{StaysApart, TakesBook, as_it_was, disks_in, is_told_in, maps_known, mounted_anew}
 use Rattle.metric_index.specs.IndexView.{AreOldOrWith, IndexView, StandsAfter, index_phases, StandsFor, capped, entries_of}
-use Rattle.metric_index.proofs.StandLemmas.{apart_fault, apart_look, is_open, reopened_stands, rest_of, whole_stands}
+use Rattle.metric_index.proofs.StandLemmas.{apart_fault, apart_look, is_open, never_damaged, reopened_stands, rest_of, whole_stands}
 
 -- what contracts see of the index's fields
 abbrev pub view_of : {D : Type 0} → Option (Held D) → ℕ → ℕ → IndexView D
@@ -115,7 +116,7 @@ module _ {D : Type 0} (g : Ghosts D) (tells : (n : ℕ) (old new : D) → g.came
         }
 
   -- where mounting fails
-  pub failed_after : {R : Type 0} (writes : Maps → Option IndexCounted) (onto : Maps → List IndexEntry → Result R ControlFault → Type 0) (then : Option (Held D)) (fault : MountFault) (r : ControlFault) (k : ℕ) → StaysApart g held then fault
+  pub failed_after : {R : Type 0} (writes : Maps → Option IndexCounted) (onto : Maps → List IndexEntry → Result R ControlFault → Type 0) (then : Option (Held D)) (fault : MountFault) (r : ControlFault) (k : ℕ) → StaysApart g sacks held then fault
       → MatchMountFault fault (λ f. r ≡ faults.DiskFault f) (λ d. r ≡ faults.Damaged d) (r ≡ faults.Memory) → k ≡ capped (n + 1) → (first : Maps) (h : List IndexEntry) → StandsFor g first h (view_of held sacks n)
       → StandsAfter g first h writes (view_of held sacks n) (view_of then sacks k) (λ own. IsCall onto first h own (Err r))
   failed_after {R} writes onto then fault r k stays is count first h stands = by fault is
@@ -161,3 +162,10 @@ module _ {D : Type 0} (g : Ghosts D) (tells : (n : ℕ) (old new : D) → g.came
         mid_is = inl refl;
         moments = still;
       }
+
+  -- and it isn't for damage
+  pub failed_sound : (then : Option (Held D)) (fault : MountFault) (r : ControlFault) → StaysApart g sacks held then fault
+      → MatchMountFault fault (λ f. r ≡ faults.DiskFault f) (λ d. r ≡ faults.Damaged d) (r ≡ faults.Memory) → (first : Maps) (h : List IndexEntry) → StandsFor g first h (view_of held sacks n) → is_control_damage r ≡ false
+  failed_sound then (MountDisk f) r stays is first h stands = ap is_control_damage is
+  failed_sound then (MountDamaged d) r stays is first h stands = absurd (never_damaged g tells reads first h (view_of held sacks n) stays.a stays.b stays.disks_are stays.broken stands stays.never)
+  failed_sound then MountMemory r stays is first h stands = ap is_control_damage is

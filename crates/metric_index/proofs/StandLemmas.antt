@@ -18,6 +18,7 @@ use Rattle.front_api.proofs.HistoryLemmas.{MayAllFollow-append, after_entries-ap
 use Rattle.metric_index.specs.BookCalls.{IsAt, LeavesBook, MatchDisk, entry_by, refusal_entry, state_by}
 use Rattle.metric_index.specs.BookView.{BookView, IsLastingBook}
 use Rattle.metric_index.specs.Holding.{IsMountedFrom}
+use Rattle.metric_index.specs.IndexDamage.{HoldsNoIndex}
 use Rattle.metric_index.specs.IndexLog.{HoldsIndex}
 use Rattle.metric_index.specs.IndexView.{AllTell, AreOfState, IndexView, LeavesNow, StandsFor, maps_at}
 use Rattle.metric_index.specs.Items.{after_one}
@@ -163,6 +164,17 @@ module _ {D : Type 0} (g : Ghosts D) (tells : (n : ℕ) (old new : D) → g.came
 
     as_read : (disk : D) (bytes : List ℕ) → g.told disk ≡ Some bytes → g.may_leave disk bytes
     as_read disk bytes e = subst (λ o. IfSome o (g.may_leave disk)) e (reads disk)
+
+    -- as they read they hold an index
+    pub never_damaged : TwoTold (g.told a) (g.told b) (HoldsNoIndex v.sacks) → ⊥
+    never_damaged none =
+        let x = told_is (g.told a) tell.0 in
+        let y = told_is (g.told b) tell.1.0 in
+        let here : HoldsNoIndex v.sacks x.0 y.0 = subst (λ tb. TwoTold (Some x.0) tb (HoldsNoIndex v.sacks)) y.1 (subst (λ ta. TwoTold ta (g.told b) (HoldsNoIndex v.sacks)) x.1 none) in
+        elim (held x.0 y.0 (as_read a x.0 x.1) (as_read b y.0 y.1)) [
+          | inl holds ↦ here now.maps holds
+          | inr tried ↦ here (after_counted now.maps tried.0) tried.2
+        ]
 
     module _ (book : BookView D) (from : IsMountedFrom g v.sacks a b book) where
       told_book : book.is_told ≡ true

@@ -10,6 +10,7 @@ use Rattle.front_api.specs.Maps.{Maps}
 use Rattle.metric_index.specs.declared.holding.Held.{Held}
 use Rattle.metric_index.specs.declared.holding.Held.TheVariants.{Mounted, Apart}
 use Rattle.metric_index.specs.BookView.{BookView, IsLastingBook}
+use Rattle.metric_index.specs.IndexDamage.{HoldsNoIndex}
 use Rattle.metric_index.specs.IndexLog.{HoldsIndex}
 
 -- the disks
@@ -61,8 +62,8 @@ pub data TakesBook {D : Type 0} (g : Ghosts D) (sacks : ℕ) (old : Option (Held
   as_it_was : old ≡ Some (Mounted book) → book.broken ≡ false → anew ≡ false → TakesBook g sacks old book anew
   mounted_anew : (a b : D) → disks_in old ≡ a ∷ b ∷ [] → maps_known old ≡ None → IsMountedFrom g sacks a b book → anew ≡ true → TakesBook g sacks old book anew
 
--- Mounting failed: the disks stay apart, and nothing was written.
-pub record StaysApart {D : Type 0} (g : Ghosts D) (old new : Option (Held D)) (fault : MountFault) : Type 0 where
+-- Mounting failed: the disks stay apart, and nothing was written. Damage comes only where they hold no index.
+pub record StaysApart {D : Type 0} (g : Ghosts D) (sacks : ℕ) (old new : Option (Held D)) (fault : MountFault) : Type 0 where
   pub a : D
   pub b : D
   pub first : D
@@ -76,3 +77,4 @@ pub record StaysApart {D : Type 0} (g : Ghosts D) (old new : Option (Held D)) (f
   pub tells_first : is_some (g.told first) ≡ is_some (g.told a)
   pub tells_second : is_some (g.told second) ≡ is_some (g.told b)
   pub cause : MatchMountFault fault (IsFault (both_faults g a b) (both_faults g first second)) (λ d. Unit {0}) (Unit {0})
+  pub never : MatchMountFault fault (λ f. Unit {0}) (λ d. TwoTold (g.told a) (g.told b) (HoldsNoIndex sacks)) (Unit {0})

@@ -37,7 +37,7 @@ fn mount_into<D: Disk>(
     requires { held.old ≡ None }
     ensures taken { OnOk result (held.new ≡ None) }
     ensures ok { IfOk result (λ taken. IsMountedFrom D.Disk sacks a b taken.0 × (taken.1 ≡ true)) }
-    ensures err { IfErr result (λ e. StaysApart D.Disk (Some (Held.Apart a b)) held.new e) }
+    ensures err { IfErr result (λ e. StaysApart D.Disk sacks (Some (Held.Apart a b)) held.new e) }
 {
     match Book::mount(alloc, a, b, sacks) {
         Ok(book) => Ok((book, true)),
@@ -60,7 +60,7 @@ pub fn take_book<D: Disk>(
     ensures taken { OnOk result (held.new ≡ None) }
     ensures ok { IfOk result (λ taken. TakesBook D.Disk sacks held.old taken.0 taken.1) }
     ensures of_sacks { IfOk result (λ taken. taken.0.sacks ≡ sacks) }
-    ensures err { IfErr result (StaysApart D.Disk held.old held.new) }
+    ensures err { IfErr result (StaysApart D.Disk sacks held.old held.new) }
 {
     match held.take() {
         Some(Held::Mounted(book)) => {

@@ -1,5 +1,5 @@
 // The index.
-ghost use Rattle.std.specs.Prelude.{◌≡◌, ◌∷◌, [], ⊤, List, Some, IfSome, IfOk, IfErr, IsSome, ◌+◌, ◌<◌, ◌==◌, is_some, not, true};
+ghost use Rattle.std.specs.Prelude.{◌≡◌, ◌∷◌, [], ⊤, List, Some, IfSome, IfOk, IfErr, IsSome, ◌+◌, ◌<◌, ◌==◌, is_some, not, false, true};
 ghost use Rattle.gate_log.specs.LogView.{IsFault, MatchFault, MatchMountFault};
 ghost use Rattle.gno_codec.specs.Index.{index_bytes};
 ghost use Rattle.gno_codec.specs.declared.item.IndexItem.TheVariants as items;
@@ -8,6 +8,7 @@ ghost use Rattle.log_pair.specs.Choice.{TwoTold};
 ghost use Rattle.log_pair.specs.Pair.{one_of, other_of};
 ghost use Rattle.log_pair.specs.PairView.{IsMaking, both_faults};
 ghost use Rattle.front_api.specs.Calls.{AddsTo, AppliesTo, BeginsOn, IsAdded, IsApplied, IsBegun};
+ghost use Rattle.front_api.specs.FaultWords.{is_control_damage};
 ghost use Rattle.front_api.specs.Maps.{Maps, new_maps};
 ghost use Rattle.front_api.specs.declared.history.IndexCounted.TheVariants as counted;
 ghost use Rattle.front_api.specs.declared.history.IndexEntry.{IndexEntry};
@@ -141,7 +142,9 @@ impl<D: Disk> Index<D> {
         // Where its disks tell their bytes: what it adds to its history, and what it stands for then.
         ensures stands { (first : Maps) (h : List IndexEntry) → StandsFor D.Disk first h self.old → StandsAfter D.Disk first h (λ m. written_by command.now) self.old self.new (λ own. IsApplied command.now first h own result) }
         ensures cause { IfErr result (λ e. MatchDisk e (IsFaultOf D.Disk self.old.disks self.new.disks) ⊤) }
+        ensures sound { (first : Maps) (h : List IndexEntry) → StandsFor D.Disk first h self.old → IfErr result (λ e. is_control_damage e ≡ false) }
         ensures came { AllCame D.Disk 6 self.old.disks self.new.disks }
+        ensures same { self.new.sacks ≡ self.old.sacks }
     {
         let taken = take_book(self.alloc, &mut self.held, self.sacks);
         let (mut book, anew) = match taken {
@@ -164,7 +167,9 @@ impl<D: Disk> Index<D> {
         ensures whole { IfSome self.old.maps (λ m. BeginsBy command.now m (entry_by (Some (counted.Draw (m.counter + 1))) result ∷ []) result) }
         ensures stands { (first : Maps) (h : List IndexEntry) → StandsFor D.Disk first h self.old → StandsAfter D.Disk first h (λ m. Some (counted.Draw (m.counter + 1))) self.old self.new (λ own. IsBegunBy command.now first h own result) }
         ensures cause { IfErr result (λ e. MatchDisk e (IsFaultOf D.Disk self.old.disks self.new.disks) ⊤) }
+        ensures sound { (first : Maps) (h : List IndexEntry) → StandsFor D.Disk first h self.old → IfErr result (λ e. is_control_damage e ≡ false) }
         ensures came { AllCame D.Disk 6 self.old.disks self.new.disks }
+        ensures same { self.new.sacks ≡ self.old.sacks }
     {
         match command {
             Command::AddMetric {
@@ -187,7 +192,9 @@ impl<D: Disk> Index<D> {
         ensures whole { IfSome self.old.maps (λ m. BeginsOn policy.now name.now resource.now m (entry_by (Some (counted.Draw (m.counter + 1))) result ∷ []) result) }
         ensures stands { (first : Maps) (h : List IndexEntry) → StandsFor D.Disk first h self.old → StandsAfter D.Disk first h (λ m. Some (counted.Draw (m.counter + 1))) self.old self.new (λ own. IsBegun policy.now name.now resource.now first h own result) }
         ensures cause { IfErr result (λ e. MatchDisk e (IsFaultOf D.Disk self.old.disks self.new.disks) ⊤) }
+        ensures sound { (first : Maps) (h : List IndexEntry) → StandsFor D.Disk first h self.old → IfErr result (λ e. is_control_damage e ≡ false) }
         ensures came { AllCame D.Disk 6 self.old.disks self.new.disks }
+        ensures same { self.new.sacks ≡ self.old.sacks }
     {
         let taken = take_book(self.alloc, &mut self.held, self.sacks);
         let (mut book, anew) = match taken {
@@ -209,7 +216,9 @@ impl<D: Disk> Index<D> {
         ensures whole { IfSome self.old.maps (λ m. AddsTo doc.now m (entry_by (Some (counted.Add doc.now)) result ∷ []) result) }
         ensures stands { (first : Maps) (h : List IndexEntry) → StandsFor D.Disk first h self.old → StandsAfter D.Disk first h (λ m. Some (counted.Add doc.now)) self.old self.new (λ own. IsAdded doc.now first h own result) }
         ensures cause { IfErr result (λ e. MatchDisk e (IsFaultOf D.Disk self.old.disks self.new.disks) ⊤) }
+        ensures sound { (first : Maps) (h : List IndexEntry) → StandsFor D.Disk first h self.old → IfErr result (λ e. is_control_damage e ≡ false) }
         ensures came { AllCame D.Disk 6 self.old.disks self.new.disks }
+        ensures same { self.new.sacks ≡ self.old.sacks }
     {
         let taken = take_book(self.alloc, &mut self.held, self.sacks);
         let (mut book, anew) = match taken {

@@ -21,7 +21,7 @@ returns-else-not-is_broken-clause-err g c =
     let is : old ≡ Some (Mounted book) = sym c.take.ensures.value ∙ c.in-Some-Mounted.is ∙ ap (λ (h : Held _). Some h) c.in-Some-Mounted.field-0-is in
     let whole : book.broken ≡ true = sym c.is_broken.ensures.value ∙ c.if-not-is_broken.false in
     let d = c.into_disks-a.result in
-    apart_by g.D.Disk old d.0 d.1 (broken_book old book d.0 d.1 is c.into_disks-a.ensures.disks.0 c.into_disks-a.ensures.disks.1) (broken_maps old book is whole) c.mount_into.result c.mount_into.new.held c.mount_into.ensures.err
+    apart_by g.D.Disk old d.0 d.1 (broken_book old book d.0 d.1 is c.into_disks-a.ensures.disks.0 c.into_disks-a.ensures.disks.1) (broken_maps old book is whole) c.args.sacks c.mount_into.result c.mount_into.new.held c.mount_into.ensures.err
 
 pub returns-in-Some-Apart-clause-ok : goal.returns-in-Some-Apart-clause-ok
 returns-in-Some-Apart-clause-ok g c =

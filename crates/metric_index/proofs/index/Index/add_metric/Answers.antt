@@ -7,8 +7,9 @@ use Rattle.front_api.specs.declared.history.IndexCounted.TheVariants as counted
 use Rattle.metric_index.specs.BookCalls.{MatchDisk}
 use Rattle.metric_index.specs.Holding.{disks_in}
 use Rattle.metric_index.specs.IndexView.{AllCame, IndexView, IsFaultOf, StandsAfter, StandsFor}
+use Rattle.metric_index.proofs.CallFacts.{added_sound}
 use Rattle.metric_index.proofs.FaultLemmas.{call_came, call_cause}
-use Rattle.metric_index.proofs.IndexLemmas.{call_after, failed_after, view_of}
+use Rattle.metric_index.proofs.IndexLemmas.{call_after, failed_after, failed_sound, view_of}
 use Rattle.metric_index.proofs.index.Index.add_metric.Goals as goal
 
 pub returns-in-Err-clause-stands : goal.returns-in-Err-clause-stands
@@ -44,3 +45,13 @@ returns-clause-cause g c =
     let call = c.add-result in
     subst (λ (v : IndexView _). IfErr call.result (λ e. MatchDisk e (IsFaultOf g.D.Disk v.disks (disks_in c.put_back.new.held)) ⊤)) c.self.view_is
     (call_cause g.D.Disk g.met.D.Disk.came_then g.met.D.Disk.came_more g.met.D.Disk.came_later i.sacks i.held c.put_back.new.held c.in-Ok.taken.0 call.new.self c.in-Ok.taken.1 c.in-Ok.ensures.ok c.put_back.ensures call.result _ call.ensures.cause)
+
+pub returns-in-Err-clause-sound : goal.returns-in-Err-clause-sound
+returns-in-Err-clause-sound g c first h stands =
+    let i = c.self.inside in
+    failed_sound g.D.Disk g.met.D.Disk.came_tells g.met.D.Disk.reads g.met.D.Disk.only_now i.held i.sacks i.entries c.take_book-taken.new.held c.in-Err.fault c.refusal_of.result c.in-Err.ensures.err c.refusal_of.ensures first h (subst (StandsFor g.D.Disk first h) (sym c.self.view_is) stands)
+
+pub returns-clause-sound : goal.returns-clause-sound
+returns-clause-sound g c first h stands =
+    let call = c.add-result in
+    added_sound c.args.doc.now c.in-Ok.taken.0.maps _ call.result call.ensures.does
