@@ -1,0 +1,10 @@
+pub mod Books
+pub mod Changing
+pub mod Disks
+pub mod Holding
+pub mod Inside
+pub mod Posting
+pub mod SackCalls
+pub mod SackHolding
+pub mod SackView
+pub mod Waiting

@@ -1,0 +1,17 @@
+//! The sack: numbered posts over an incoming log, and live metrics on a shelf. It stands for the history of its calls.
+#![tactic(auto)]
+
+mod books;
+mod changing;
+mod disks;
+mod holding;
+mod posting;
+mod sack;
+#[cfg(test)]
+mod tests;
+mod waiting;
+
+pub use disks::SackDisks;
+pub use log_pair::{LogFault, MountFault, Place};
+pub use sack::Sack;
+pub use sack_history::{CreateFault, ReleaseFault, SackFault};
