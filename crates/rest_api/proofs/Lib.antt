@@ -1,0 +1,10 @@
+mod Accepted
+mod DoingLemmas
+mod GoingOn
+mod HandlingLemmas
+mod MetricLemmas
+mod MeasuresLemmas
+mod ListLemmas
+mod MembersLemmas
+mod NameOrder
+mod ConnectionLemmas

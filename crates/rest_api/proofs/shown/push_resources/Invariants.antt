@@ -1,0 +1,7 @@
+use Rattle.std.proofs.Common.{◌≡◌, ◌++◌, map, take}
+use Rattle.control_docs.specs.Lists.{list_front}
+use Rattle.rest_api.specs.Shown.{resource_shown}
+use Rattle.rest_api.proofs.shown.push_resources.Given as goal
+
+abbrev pub invariant-loop-place : goal.invariant-loop-place
+invariant-loop-place l = l.text.items ≡ l.fn.text.items ++ list_front (map resource_shown (take l.place l.docs))
