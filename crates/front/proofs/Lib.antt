@@ -1,0 +1,17 @@
+pub mod Backs
+pub mod Came
+pub mod Causes
+pub mod Created
+pub mod Entered
+pub mod Failed
+pub mod Groups
+pub mod Looks
+pub mod Making
+pub mod Mounted
+pub mod OpenedStore
+pub mod Opens
+pub mod Still
+pub mod Stops
+pub mod Sums
+pub mod Told
+pub mod Unwritten

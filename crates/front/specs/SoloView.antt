@@ -1,0 +1,92 @@
+-- What contracts see of a front of one thread, and the histories that it stands for.
+use Rattle.std.specs.Prelude.{◌≡◌, ℕ, ◌+◌, ◌&&◌, Bool, true, false, if◌then◌else◌, List, [], ◌∷◌, ◌++◌, replicate, Option, None, Some, IsSome, is_some, ⊤}
+use Rattle.gno_disk.specs.declared.disk.Disk.{Ghosts}
+use Rattle.log_pair.specs.declared.place.Place.{Place}
+use Rattle.front_api.specs.Bench.{Duty}
+use Rattle.front_api.specs.Maps.{Maps}
+use Rattle.front_api.specs.Seen.{IndexBook, SackBook, SeenBooks, entries_in, marked}
+use Rattle.front_api.specs.declared.duty.LastClaim.TheVariants as last_claim
+use Rattle.metric_index.specs.IndexView.{IndexView, StandsFor as IndexStandsFor}
+use Rattle.sack_history.specs.Scratch.{Durable, durable}
+use Rattle.sack_state.specs.declared.disks.Opening.{Opening}
+use Rattle.sack_state.specs.Disks.{AreTold, TellAll}
+use Rattle.sack_state.specs.SackHolding.{HoldsSack}
+use Rattle.sack_state.specs.SackView.{SackView, StandsFor as SackStandsFor}
+use Rattle.front.specs.declared.made.Made.{Made}
+use Rattle.front.specs.Plan.{five}
+
+-- its index, as it is and as it was when it was opened, its sacks, what it was made with, and what it has done as a bench
+pub record SoloView (D : Type 0) : Type 0 where
+  pub index : IndexView D
+  pub opened : IndexView D
+  pub sacks : List (SackView D)
+  pub made : Made
+  pub duty : Duty
+
+-- the disks of a sack, in their order
+abbrev pub disks_of_sack : {D : Type 0} → SackView D → List D
+disks_of_sack {D} v = elim v.state as (λ s. List D) [ None ↦ [] | Some s ↦ five s.disks ]
+
+-- and of all of these
+abbrev pub disks_of_sacks : {D : Type 0} → List (SackView D) → List D
+disks_of_sacks [] = []
+disks_of_sacks (v ∷ sacks) = disks_of_sack v ++ disks_of_sacks sacks
+
+-- its disks, in the order of the plan
+abbrev pub disks_of_solo : {D : Type 0} → SoloView D → List D
+disks_of_solo v = v.index.disks ++ disks_of_sacks v.sacks
+
+-- no commit and no release was counted, and nothing was claimed on so many sacks
+abbrev pub new_duty : ℕ → Duty
+new_duty sacks = record { refusals = record { stale = 0; starved = 0; faults = 0 }; last_claims = replicate sacks last_claim.NoClaim }
+
+-- ---- origins
+
+-- whether each disk tells its bytes
+abbrev pub do_tell : {D : Type 0} → Ghosts D → List D → Bool
+do_tell g [] = true
+do_tell g (d ∷ disks) = is_some (g.told d) && do_tell g disks
+
+-- the origin of an index that was opened so: its maps, or none where a disk tells no bytes
+abbrev pub index_origin : {D : Type 0} → Ghosts D → IndexView D → Option Maps
+index_origin g opened = if do_tell g opened.disks then opened.maps else None
+
+-- The origin of a sack that was opened so. A sack that was made has the state of no history; one that was found has the
+-- state that its disks held, as they read when they were handed in. There is none where a disk tells no bytes, or where
+-- they held no state.
+pub data IsSackOrigin {D : Type 0} (g : Ghosts D) (place : Place) (opening : Opening D) (origin : Option Durable) : Type 0 where
+  made : opening.is_new ≡ true → TellAll g opening.disks → origin ≡ Some (durable []) → IsSackOrigin g place opening origin
+  found : (d : Durable) → opening.is_new ≡ false → AreTold g opening.disks (HoldsSack place d) → origin ≡ Some d → IsSackOrigin g place opening origin
+  untold : (TellAll g opening.disks → ⊥) → origin ≡ None → IsSackOrigin g place opening origin
+  none_held : opening.is_new ≡ false → ((d : Durable) → AreTold g opening.disks (HoldsSack place d) → ⊥) → origin ≡ None → IsSackOrigin g place opening origin
+
+-- ---- histories
+
+-- The index stands for what is seen of it: it isn't shared, its entries are the caller's own, and its origin is that of
+-- its opening. Where the origin is told, the index stands for the entries behind these maps.
+pub record IsIndexBook {D : Type 0} (g : Ghosts D) (opened now : IndexView D) (book : IndexBook) : Type 0 where
+  pub alone : book.is_shared ≡ false
+  pub own : book.seen ≡ marked book.caller (entries_in book.seen)
+  pub origin : book.origin ≡ index_origin g opened
+  pub stands : (first : Maps) → book.origin ≡ Some first → IndexStandsFor g first (entries_in book.seen) now
+
+-- The same of the sack of this number. Where its origin is told, it stands for the entries behind each list of what
+-- counts that it may have been opened with.
+pub record IsSackBook {D : Type 0} (g : Ghosts D) (sack : ℕ) (v : SackView D) (book : SackBook) : Type 0 where
+  pub alone : book.is_shared ≡ false
+  pub own : book.seen ≡ marked book.caller (entries_in book.seen)
+  pub number : v.place.sack ≡ sack
+  pub origin : IsSackOrigin g v.place v.opening book.origin
+  pub stands : IsSome book.origin → SackStandsFor g (entries_in book.seen) v
+
+-- the same of each of these sacks, the first having this number
+abbrev pub AreSackBooks : {D : Type 0} → Ghosts D → ℕ → List (SackView D) → List SackBook → Type 0
+AreSackBooks g sack [] [] = ⊤
+AreSackBooks g sack [] (book ∷ books) = ⊥
+AreSackBooks g sack (v ∷ sacks) [] = ⊥
+AreSackBooks g sack (v ∷ sacks) (book ∷ books) = IsSackBook g sack v book × AreSackBooks g (sack + 1) sacks books
+
+-- The front stands for what is seen of its books.
+pub record StandsForBooks {D : Type 0} (g : Ghosts D) (v : SoloView D) (books : SeenBooks) : Type 0 where
+  pub index : IsIndexBook g v.opened v.index books.index
+  pub sacks : AreSackBooks g 0 v.sacks books.sacks

@@ -1,0 +1,17 @@
+//! The front of one thread: the index and the sacks of a store, on the disks of its plan.
+#![tactic(auto)]
+
+mod back;
+mod calls;
+mod fault;
+mod look;
+mod made;
+mod opening;
+mod plan;
+mod solo;
+#[cfg(test)]
+mod tests;
+
+pub use fault::StoreFault;
+pub use made::Made;
+pub use solo::Solo;

@@ -1,0 +1,129 @@
+// The front of one thread, on disks in memory.
+use crate::{Solo, StoreFault};
+use front_api::{Command, ControlFault, Reply};
+use gno_disk::MemDisk;
+use sack_history::SackFault;
+use series_model::{Batch, MetricId};
+use std::alloc::Global;
+use std::test::Fail;
+
+// Disks that hold nothing.
+fn fresh(alloc: Global, count: usize) -> Result<Vec<MemDisk>, Fail> {
+    let mut disks = Vec::with_capacity(alloc, count)?;
+    for _ in 0..count {
+        let disk = MemDisk::new(alloc, Vec::new(alloc), Vec::new(alloc));
+        disks.push(disk)?;
+    }
+    Ok(disks)
+}
+
+// Disks of which one fails its call of this number.
+fn failing(alloc: Global, count: usize, at: usize, call: u64) -> Result<Vec<MemDisk>, Fail> {
+    let mut disks = fresh(alloc, count)?;
+    disks[at] = MemDisk::new(alloc, Vec::new(alloc), vec![in alloc; call]?);
+    Ok(disks)
+}
+
+fn lengths(disks: &[MemDisk], alloc: Global) -> Result<Vec<u64>, Fail> {
+    let mut lengths = Vec::new(alloc);
+    for disk in disks {
+        lengths.push(gno_disk::Disk::len(disk))?;
+    }
+    Ok(lengths)
+}
+
+// A store that was made is found, mounted again, and gives its disks back in their order.
+#[test]
+fn a_store_is_made_once(rt: HostRuntime) -> Result<(), Fail> {
+    let alloc = rt.alloc();
+    let Ok(solo) = Solo::create(alloc, fresh(alloc, 12)?, 2, 1) else {
+        return Err(Fail::from("create"));
+    };
+    let disks = solo.into_disks();
+    let before = lengths(&disks, alloc)?;
+    assert_eq!(rt; disks.len(), 12);
+    assert_eq!(rt; before[0], 50);
+    assert_eq!(rt; before[11], 0);
+    let Err((disks, fault)) = Solo::create(alloc, disks, 2, 1) else {
+        return Err(Fail::from("made twice"));
+    };
+    assert_eq!(rt; fault, StoreFault::Exists);
+    assert_eq!(rt; disks.len(), 12);
+    let Ok(solo) = Solo::mount(alloc, disks, 2) else {
+        return Err(Fail::from("mount"));
+    };
+    let disks = solo.into_disks();
+    assert_eq!(rt; lengths(&disks, alloc)?, before);
+    let Err((_, fault)) = Solo::mount(alloc, fresh(alloc, 12)?, 2) else {
+        return Err(Fail::from("mounted nothing"));
+    };
+    assert!(rt; matches!(fault, StoreFault::Damaged(_)));
+    Ok(())
+}
+
+// A store is made on these disks, or there is one that can be mounted.
+fn made_or_there(rt: HostRuntime, disks: Vec<MemDisk>) -> Result<(), Fail> {
+    let alloc = rt.alloc();
+    assert_eq!(rt; disks.len(), 7);
+    let Err((disks, fault)) = Solo::create(alloc, disks, 1, 1) else {
+        return Ok(());
+    };
+    assert_eq!(rt; fault, StoreFault::Exists);
+    assert_eq!(rt; disks.len(), 7);
+    assert!(rt; Solo::mount(alloc, disks, 1).is_ok());
+    Ok(())
+}
+
+// Whichever call of the index's first disk, or of a sack's, fails while a store is made, there is none then or the whole
+// one, and making it again ends well.
+#[test]
+fn a_failed_making_is_made_again(rt: HostRuntime) -> Result<(), Fail> {
+    let alloc = rt.alloc();
+    for disk in [0, 1, 2, 5, 6] {
+        for call in 0..6_u64 {
+            let Err((disks, fault)) = Solo::create(alloc, failing(alloc, 7, disk, call)?, 1, 1)
+            else {
+                continue;
+            };
+            assert!(rt; matches!(fault, StoreFault::DiskFault(_)));
+            made_or_there(rt, disks)?;
+        }
+    }
+    Ok(())
+}
+
+// A record that is no header gives way; a header stays.
+#[test]
+fn what_is_no_store_gives_way(rt: HostRuntime) -> Result<(), Fail> {
+    let alloc = rt.alloc();
+    let mut disks = fresh(alloc, 7)?;
+    let other = vec![in alloc; 1, 0, 0, 0, 0, 0, 0, 0, 1, 7, 0]?;
+    disks[1] = MemDisk::new(alloc, other, Vec::new(alloc));
+    let Ok(solo) = Solo::create(alloc, disks, 1, 1) else {
+        return Err(Fail::from("create"));
+    };
+    assert!(rt; Solo::mount(alloc, solo.into_disks(), 1).is_ok());
+    Ok(())
+}
+
+// Commands are done in the index, and a post of a metric that isn't live is refused by its sack.
+#[test]
+fn calls_enter_their_books(rt: HostRuntime) -> Result<(), Fail> {
+    let alloc = rt.alloc();
+    let Ok(mut solo) = Solo::create(alloc, fresh(alloc, 12)?, 2, 1) else {
+        return Err(Fail::from("create"));
+    };
+    assert!(rt;
+        matches!(
+            solo.ask_index(&Command::AddResource(7)),
+            Ok(Reply::Resources(_))
+        )
+    );
+    let again = solo.ask_index(&Command::AddResource(7));
+    assert!(rt; matches!(again, Err(ControlFault::ResourceExists)));
+    let Ok(batch) = Batch::make(Vec::new(alloc)) else {
+        return Err(Fail::from("batch"));
+    };
+    assert!(rt; matches!(solo.post_to(MetricId(3), &batch), Err(SackFault::Unknown)));
+    Ok(())
+}
