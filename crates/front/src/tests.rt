@@ -20,8 +20,40 @@ fn fresh(alloc: Global, count: usize) -> Result<Vec<MemDisk>, Fail> {
 // Disks of which one fails its call of this number.
 fn failing(alloc: Global, count: usize, at: usize, call: u64) -> Result<Vec<MemDisk>, Fail> {
     let mut disks = fresh(alloc, count)?;
-    disks[at] = MemDisk::new(alloc, Vec::new(alloc), vec![in alloc; call]?);
+    let disk = MemDisk::new(alloc, Vec::new(alloc), vec![in alloc; call]?);
+    put(&mut disks, at, disk)?;
     Ok(disks)
+}
+
+// Puts a disk in the place of another one.
+fn put(disks: &mut Vec<MemDisk>, at: usize, disk: MemDisk) -> Result<(), Fail> {
+    match disks.get_mut(at) {
+        Some(place) => {
+            *place = disk;
+            Ok(())
+        }
+        None => Err(Fail::from("no such disk")),
+    }
+}
+
+type Opened = Result<Solo<MemDisk>, (Vec<MemDisk>, StoreFault)>;
+
+// Makes a store on these disks, which are those of the plan.
+fn make(alloc: Global, disks: Vec<MemDisk>, sacks: u16) -> Result<Opened, Fail> {
+    if 1 <= sacks && sacks <= 64 && disks.len() == 2 + 5 * usize::from(sacks) {
+        Ok(Solo::create(alloc, disks, sacks, 1))
+    } else {
+        Err(Fail::from("other disks"))
+    }
+}
+
+// Mounts the store on them.
+fn mount(alloc: Global, disks: Vec<MemDisk>, sacks: u16) -> Result<Opened, Fail> {
+    if 1 <= sacks && sacks <= 64 && disks.len() == 2 + 5 * usize::from(sacks) {
+        Ok(Solo::mount(alloc, disks, sacks))
+    } else {
+        Err(Fail::from("other disks"))
+    }
 }
 
 fn lengths(disks: &[MemDisk], alloc: Global) -> Result<Vec<u64>, Fail> {
@@ -36,25 +68,23 @@ fn lengths(disks: &[MemDisk], alloc: Global) -> Result<Vec<u64>, Fail> {
 #[test]
 fn a_store_is_made_once(rt: HostRuntime) -> Result<(), Fail> {
     let alloc = rt.alloc();
-    let Ok(solo) = Solo::create(alloc, fresh(alloc, 12)?, 2, 1) else {
+    let Ok(solo) = make(alloc, fresh(alloc, 12)?, 2)? else {
         return Err(Fail::from("create"));
     };
     let disks = solo.into_disks();
     let before = lengths(&disks, alloc)?;
     assert_eq!(rt; disks.len(), 12);
-    assert_eq!(rt; before[0], 50);
-    assert_eq!(rt; before[11], 0);
-    let Err((disks, fault)) = Solo::create(alloc, disks, 2, 1) else {
+    assert!(rt; before.starts_with(&[50]) && before.ends_with(&[0]));
+    let Err((disks, fault)) = make(alloc, disks, 2)? else {
         return Err(Fail::from("made twice"));
     };
     assert_eq!(rt; fault, StoreFault::Exists);
-    assert_eq!(rt; disks.len(), 12);
-    let Ok(solo) = Solo::mount(alloc, disks, 2) else {
+    let Ok(solo) = mount(alloc, disks, 2)? else {
         return Err(Fail::from("mount"));
     };
     let disks = solo.into_disks();
     assert_eq!(rt; lengths(&disks, alloc)?, before);
-    let Err((_, fault)) = Solo::mount(alloc, fresh(alloc, 12)?, 2) else {
+    let Err((_, fault)) = mount(alloc, fresh(alloc, 12)?, 2)? else {
         return Err(Fail::from("mounted nothing"));
     };
     assert!(rt; matches!(fault, StoreFault::Damaged(_)));
@@ -62,16 +92,11 @@ fn a_store_is_made_once(rt: HostRuntime) -> Result<(), Fail> {
 }
 
 // A store is made on these disks, or there is one that can be mounted.
-fn made_or_there(rt: HostRuntime, disks: Vec<MemDisk>) -> Result<(), Fail> {
-    let alloc = rt.alloc();
-    assert_eq!(rt; disks.len(), 7);
-    let Err((disks, fault)) = Solo::create(alloc, disks, 1, 1) else {
-        return Ok(());
+fn made_or_there(alloc: Global, disks: Vec<MemDisk>) -> Result<bool, Fail> {
+    let Err((disks, fault)) = make(alloc, disks, 1)? else {
+        return Ok(true);
     };
-    assert_eq!(rt; fault, StoreFault::Exists);
-    assert_eq!(rt; disks.len(), 7);
-    assert!(rt; Solo::mount(alloc, disks, 1).is_ok());
-    Ok(())
+    Ok(fault == StoreFault::Exists && mount(alloc, disks, 1)?.is_ok())
 }
 
 // Whichever call of the index's first disk, or of a sack's, fails while a store is made, there is none then or the whole
@@ -81,12 +106,11 @@ fn a_failed_making_is_made_again(rt: HostRuntime) -> Result<(), Fail> {
     let alloc = rt.alloc();
     for disk in [0, 1, 2, 5, 6] {
         for call in 0..6_u64 {
-            let Err((disks, fault)) = Solo::create(alloc, failing(alloc, 7, disk, call)?, 1, 1)
-            else {
+            let Err((disks, fault)) = make(alloc, failing(alloc, 7, disk, call)?, 1)? else {
                 continue;
             };
             assert!(rt; matches!(fault, StoreFault::DiskFault(_)));
-            made_or_there(rt, disks)?;
+            assert!(rt; made_or_there(alloc, disks)?);
         }
     }
     Ok(())
@@ -98,11 +122,11 @@ fn what_is_no_store_gives_way(rt: HostRuntime) -> Result<(), Fail> {
     let alloc = rt.alloc();
     let mut disks = fresh(alloc, 7)?;
     let other = vec![in alloc; 1, 0, 0, 0, 0, 0, 0, 0, 1, 7, 0]?;
-    disks[1] = MemDisk::new(alloc, other, Vec::new(alloc));
-    let Ok(solo) = Solo::create(alloc, disks, 1, 1) else {
+    put(&mut disks, 1, MemDisk::new(alloc, other, Vec::new(alloc)))?;
+    let Ok(solo) = make(alloc, disks, 1)? else {
         return Err(Fail::from("create"));
     };
-    assert!(rt; Solo::mount(alloc, solo.into_disks(), 1).is_ok());
+    assert!(rt; mount(alloc, solo.into_disks(), 1)?.is_ok());
     Ok(())
 }
 
@@ -110,7 +134,7 @@ fn what_is_no_store_gives_way(rt: HostRuntime) -> Result<(), Fail> {
 #[test]
 fn calls_enter_their_books(rt: HostRuntime) -> Result<(), Fail> {
     let alloc = rt.alloc();
-    let Ok(mut solo) = Solo::create(alloc, fresh(alloc, 12)?, 2, 1) else {
+    let Ok(mut solo) = make(alloc, fresh(alloc, 12)?, 2)? else {
         return Err(Fail::from("create"));
     };
     assert!(rt;
