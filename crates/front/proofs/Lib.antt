@@ -1,6 +1,8 @@
+pub mod Adding
 pub mod Backs
 pub mod Came
 pub mod Causes
+pub mod Counting
 pub mod Created
 pub mod Entered
 pub mod Failed

@@ -1,3 +1,5 @@
+pub mod Adding
+pub mod Counting
 pub mod Creating
 pub mod Inside
 pub mod Looking

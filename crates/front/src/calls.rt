@@ -1,5 +1,5 @@
 // The calls of a front, as they enter the books of the store.
-ghost use Rattle.std.specs.Prelude.{◌≡◌, IfErr};
+ghost use Rattle.std.specs.Prelude.{◌≡◌, length};
 ghost use Rattle.sack_history.specs.Calls.{IsCreating, IsDropping};
 ghost use Rattle.front_api.specs.Calls.{IsApplied};
 ghost use Rattle.front_api.specs.FaultWords.{create_words, sack_words};
@@ -21,6 +21,7 @@ impl<D: Disk> Solo<D> {
     pub(crate) fn post_to(&mut self, metric: MetricId, batch: &Batch) -> Result<u64, SackFault>
         ensures posts { LeadsTo (StandsForBooks D.Disk) self.old self.new (Posts metric batch.now result) }
         ensures same { self.new ≡ record self.old { sacks = self.new.sacks } }
+        ensures as_many { length self.new.sacks ≡ length self.old.sacks }
     {
         let sack = sack_of(metric, self.made.sacks);
         let book = &mut self.sacks[usize::from(sack)];
@@ -38,6 +39,7 @@ impl<D: Disk> Solo<D> {
     ) -> Result<(), CreateFault>
         ensures creates { LeadsTo (StandsForBooks D.Disk) self.old self.new (EntersSackOf metric create_words (IsCreating metric policy.now) result) }
         ensures same { self.new ≡ record self.old { sacks = self.new.sacks } }
+        ensures as_many { length self.new.sacks ≡ length self.old.sacks }
     {
         let sack = sack_of(metric, self.made.sacks);
         let book = &mut self.sacks[usize::from(sack)];
@@ -51,6 +53,7 @@ impl<D: Disk> Solo<D> {
     pub(crate) fn drop_in_sack(&mut self, metric: MetricId) -> Result<(), SackFault>
         ensures drops { LeadsTo (StandsForBooks D.Disk) self.old self.new (EntersSackOf metric sack_words (IsDropping metric) result) }
         ensures same { self.new ≡ record self.old { sacks = self.new.sacks } }
+        ensures as_many { length self.new.sacks ≡ length self.old.sacks }
     {
         let sack = sack_of(metric, self.made.sacks);
         let book = &mut self.sacks[usize::from(sack)];

@@ -3,6 +3,8 @@
 
 mod back;
 mod calls;
+mod commands;
+mod counts;
 mod fault;
 mod look;
 mod made;
@@ -12,6 +14,7 @@ mod solo;
 #[cfg(test)]
 mod tests;
 
+pub use counts::Counts;
 pub use fault::StoreFault;
 pub use made::Made;
 pub use solo::Solo;

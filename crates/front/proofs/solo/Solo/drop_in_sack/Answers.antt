@@ -60,3 +60,6 @@ returns-clause-drops g c =
     let sack : k ≡ sack_of c.args.metric (length books.sacks) = c.from.ensures ∙ c.sack_of-sack.ensures ∙ ap (λ m. sack_of c.args.metric m) (sym many) in
     (new.0, new.1, subst (λ (m : ℕ). EntersSack m sack_words (IsDropping c.args.metric) (told_result n r) books new.0) sack new.2) in
     subst Call (sym told) (subst (λ (x : SoloView _). LeadsTo (StandsForBooks g.D.Disk) x later (EntersSackOf c.args.metric sack_words (IsDropping c.args.metric) (told_result n r))) c.self.view_is posts)
+
+pub returns-clause-as_many : goal.returns-clause-as_many
+returns-clause-as_many g c = length-set c.self.inside.sacks.items c.from.result c.drop_metric.new.self ∙ ap (λ v. length v.sacks) c.self.view_is

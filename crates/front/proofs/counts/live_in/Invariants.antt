@@ -1,0 +1,9 @@
+use Rattle.std.proofs.Common.{◌≡◌, List, take}
+use Rattle.sack_history.specs.declared.entry.Counted.{Counted}
+use Rattle.front_api.specs.Seen.{SackBook, capped}
+use Rattle.front.specs.Counting.{AreCountedIn, live_metrics}
+use Rattle.front.specs.SoloView.{AreSackBooks}
+use Rattle.front.proofs.counts.live_in.Given as goal
+
+abbrev pub invariant-loop-sack : goal.invariant-loop-sack
+invariant-loop-sack g l = (books : List SackBook) (lists : List (List Counted)) → AreSackBooks g.D.Disk 0 l.sacks books → AreCountedIn books lists → l.total ≡ capped (live_metrics (take l.sack-index lists))

@@ -1,0 +1,18 @@
+use Rattle.std.proofs.Common.{subst, refl}
+use Rattle.front_api.specs.Seen.{EntersIndex, LeadsTo}
+use Rattle.metric_index.specs.IndexCalls.{IsBegunBy}
+use Rattle.front.specs.Inside.{solo_view}
+use Rattle.front.specs.SoloView.{SoloView, StandsForBooks}
+use Rattle.front.proofs.Entered.{index_leads}
+use Rattle.front.proofs.Told.{control_risen}
+use Rattle.front.proofs.solo.Solo.begin.Goals as goal
+
+pub returns-clause-begins : goal.returns-clause-begins
+returns-clause-begins g c =
+    let i = c.self.inside in
+    let later = solo_view (record i { index = c.begin_metric.new.self }) in
+    subst (λ (v : SoloView _). LeadsTo (StandsForBooks g.D.Disk) v later (EntersIndex (IsBegunBy c.args.command.now) c.begin_metric.result)) c.self.view_is
+    (index_leads g.D.Disk (IsBegunBy c.args.command.now) c.begin_metric.result (solo_view i) later refl
+    (λ first h stands. let after = c.begin_metric.ensures.stands first h stands in (after.own, after.stands, after.does))
+    c.begin_metric.ensures.sound
+    (control_risen g.D.Disk c.begin_metric.result i.index.disks c.begin_metric.new.self.disks c.begin_metric.ensures.cause))
