@@ -1,9 +1,11 @@
 pub mod Adding
 pub mod Backs
+pub mod Calling
 pub mod Came
 pub mod Causes
 pub mod Counting
 pub mod Created
+pub mod Draining
 pub mod Entered
 pub mod Failed
 pub mod Groups
@@ -12,6 +14,7 @@ pub mod Making
 pub mod Mounted
 pub mod OpenedStore
 pub mod Opens
+pub mod Releasing
 pub mod Still
 pub mod Stops
 pub mod Sums

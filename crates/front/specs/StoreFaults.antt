@@ -6,8 +6,12 @@ use Rattle.gate_log.specs.declared.fault.MountFault.{MountFault}
 use Rattle.gate_log.specs.declared.fault.MountFault.TheVariants as mount_fault
 use Rattle.sack_history.specs.declared.fault.CreateFault.{CreateFault}
 use Rattle.sack_history.specs.declared.fault.CreateFault.TheVariants as create_fault
+use Rattle.sack_history.specs.declared.fault.ReleaseFault.{ReleaseFault}
+use Rattle.sack_history.specs.declared.fault.ReleaseFault.TheVariants as release_fault
 use Rattle.sack_history.specs.declared.fault.SackFault.{SackFault}
 use Rattle.sack_history.specs.declared.fault.SackFault.TheVariants as sack_fault
+use Rattle.front_api.specs.declared.bench.FreeFault.{FreeFault}
+use Rattle.front_api.specs.declared.bench.FreeFault.TheVariants as free_fault
 use Rattle.front.specs.declared.fault.StoreFault.{StoreFault}
 use Rattle.front.specs.declared.fault.StoreFault.TheVariants as store_fault
 
@@ -24,6 +28,10 @@ told_of_sack sack fault = fault
 abbrev pub told_of_creating : ℕ → CreateFault → CreateFault
 told_of_creating sack (create_fault.Damaged d) = create_fault.Damaged (in_store sack d)
 told_of_creating sack fault = fault
+
+-- the same where a claim is given back
+abbrev pub told_of_releasing : ReleaseFault → FreeFault
+told_of_releasing (release_fault.NotHolder given holder) = free_fault.Stale given holder
 
 -- a fault of mounting a sack, as the store tells it
 abbrev pub told_in_store : ℕ → MountFault → MountFault

@@ -2,11 +2,12 @@
 ghost use Rattle.std.specs.Prelude.{◌≡◌};
 ghost use Rattle.gate_log.specs.LogView.{MatchFault, MatchMountFault};
 ghost use Rattle.gate_log.specs.declared.fault.LogFault.{LogFault as LogFaultView};
-ghost use Rattle.front.specs.StoreFaults.{in_store, told_in_store, told_of_creating, told_of_sack};
+ghost use Rattle.front.specs.StoreFaults.{in_store, told_in_store, told_of_creating, told_of_releasing, told_of_sack};
 
+use front_api::FreeFault;
 use gno_num::{Damaged, DiskFault};
 use log_pair::{LogFault, MountFault};
-use sack_history::{CreateFault, SackFault};
+use sack_history::{CreateFault, ReleaseFault, SackFault};
 
 /// Why a store wasn't made or mounted.
 #[derive(Clone, Copy, Debug, PartialEq, Eq)]
@@ -97,5 +98,14 @@ pub fn told_of_creating(sack: u16, fault: CreateFault) -> CreateFault
     match fault {
         CreateFault::Damaged(damaged) => CreateFault::Damaged(in_store(sack, damaged)),
         other => other,
+    }
+}
+
+/// The same where a claim is given back.
+pub fn told_of_releasing(fault: ReleaseFault) -> FreeFault
+    ensures { result ≡ told_of_releasing fault }
+{
+    match fault {
+        ReleaseFault::NotHolder { given, holder } => FreeFault::Stale { given, holder },
     }
 }

@@ -2,10 +2,12 @@
 #![tactic(auto)]
 
 mod back;
+mod bench;
 mod calls;
 mod commands;
 mod counts;
 mod fault;
+mod histories;
 mod look;
 mod made;
 mod opening;
@@ -14,6 +16,7 @@ mod solo;
 #[cfg(test)]
 mod tests;
 
+pub use bench::Starved;
 pub use counts::Counts;
 pub use fault::StoreFault;
 pub use made::Made;

@@ -1,9 +1,11 @@
 // The front of one thread, on disks in memory.
-use crate::{Solo, StoreFault};
-use front_api::{Command, ControlFault, Reply};
+use crate::{Counts, Solo, Starved, StoreFault};
+use archive_policy::{Kind, Name, Policy, Wanted};
+use front_api::{Command, ControlFault, FreeFault, Reply};
 use gno_disk::MemDisk;
+use gno_num::Span;
 use sack_history::SackFault;
-use series_model::{Batch, MetricId};
+use series_model::{Batch, MetricId, Ticket};
 use std::alloc::Global;
 use std::test::Fail;
 
@@ -149,5 +151,87 @@ fn calls_enter_their_books(rt: HostRuntime) -> Result<(), Fail> {
         return Err(Fail::from("batch"));
     };
     assert!(rt; matches!(solo.post_to(MetricId(3), &batch), Err(SackFault::Unknown)));
+    Ok(())
+}
+
+// `p`: means of 60 seconds.
+fn policy(alloc: Global) -> Result<Policy, Fail> {
+    let wanted = [Wanted {
+        granularity: Span::of_nanos(60_000_000_000),
+        points: Some(10),
+        timespan: None,
+    }];
+    Ok(Policy::make(alloc, Name::of(alloc, b"p")?, 0, &wanted, &[Kind::Mean])?)
+}
+
+// Adds a metric with the policy, and gives its identifier.
+fn added(alloc: Global, solo: &mut Solo<MemDisk>) -> Result<MetricId, Fail> {
+    let command = Command::AddMetric {
+        policy: Some(Name::of(alloc, b"p")?),
+        name: None,
+        unit: None,
+        resource: None,
+    };
+    match solo.do_command(alloc, &command) {
+        Ok(Reply::Metrics(docs)) => match docs.items() {
+            [doc] => Ok(doc.id),
+            _ => Err(Fail::from("not one metric")),
+        },
+        _ => Err(Fail::from("add a metric")),
+    }
+}
+
+// Whether no claim is held on this sack.
+fn is_free(solo: &mut Solo<MemDisk>, sack: u16) -> bool {
+    let ticket = Ticket { sack, number: 1 };
+    sack < solo.sack_count()
+        && matches!(
+            solo.release_work(Starved { ticket }),
+            Err(FreeFault::Stale { holder: None, .. })
+        )
+}
+
+// A new store with the policy.
+fn with_policy(alloc: Global) -> Result<Solo<MemDisk>, Fail> {
+    let Ok(mut solo) = make(alloc, fresh(alloc, 12)?, 2)? else {
+        return Err(Fail::from("create"));
+    };
+    match solo.do_command(alloc, &Command::AddPolicy(policy(alloc)?)) {
+        Ok(_) => Ok(solo),
+        Err(_) => Err(Fail::from("add a policy")),
+    }
+}
+
+// Posts no measures.
+fn posted(alloc: Global, solo: &mut Solo<MemDisk>, metric: MetricId) -> Result<bool, Fail> {
+    let Ok(batch) = Batch::make(Vec::new(alloc)) else {
+        return Err(Fail::from("batch"));
+    };
+    Ok(solo.post_to(metric, &batch).is_ok())
+}
+
+// Whether a metric is dropped.
+fn dropped(alloc: Global, solo: &mut Solo<MemDisk>, metric: MetricId) -> bool {
+    solo.do_command(alloc, &Command::DropMetric(metric)).is_ok()
+}
+
+fn counts(metrics: u64, pending: u64) -> Counts {
+    Counts { metrics, pending }
+}
+
+// Metrics come with the identifiers of store 1, are counted with the posts that wait, and are dropped.
+#[test]
+fn metrics_come_and_go(rt: HostRuntime) -> Result<(), Fail> {
+    let alloc = rt.alloc();
+    let mut solo = with_policy(alloc)?;
+    let first = added(alloc, &mut solo)?;
+    let second = added(alloc, &mut solo)?;
+    assert_eq!(rt; first, MetricId(0x0000_0001_0000_8000_8000_0000_0000_0001));
+    assert_eq!(rt; second, MetricId(0x0000_0001_0000_8000_8000_0000_0000_0002));
+    assert!(rt; posted(alloc, &mut solo, first)?);
+    assert_eq!(rt; solo.counts(), counts(2, 1));
+    assert!(rt; dropped(alloc, &mut solo, first) && !dropped(alloc, &mut solo, first));
+    assert_eq!(rt; solo.counts(), counts(1, 0));
+    assert!(rt; is_free(&mut solo, 1));
     Ok(())
 }

@@ -1,20 +1,16 @@
-use Rattle.std.proofs.Common.{◌≡◌, ℕ, length, Some, subst, refl, sym, ap, ◌∙◌, ◌++◌, true, Err}
-use Rattle.std.specs.List.{slice_get}
+use Rattle.std.proofs.Common.{◌≡◌, true, ℕ, length, sym, ap, subst, ◌∙◌, Err}
 use Rattle.std.specs.Vec.{with_item}
 use Rattle.std.proofs.lemmas.List.{length-set}
-use Rattle.std.proofs.lemmas.Option.{slice_get-get_or}
-use Rattle.sack_history.specs.Calls.{IsPosting}
-use Rattle.sack_history.specs.Entries.{all_counted}
-use Rattle.sack_history.specs.declared.fault.SackFault.{SackFault}
 use Rattle.std.specs.declared.result.Result.{Result}
-use Rattle.front_api.specs.FaultWords.{sack_words}
+use Rattle.sack_history.specs.Calls.{IsPosting}
+use Rattle.sack_history.specs.declared.fault.SackFault.{SackFault}
 use Rattle.front_api.specs.Front.{Posts}
-use Rattle.front_api.specs.Seen.{EntersSack, LeadsTo, sack_of}
+use Rattle.front_api.specs.Seen.{LeadsTo}
 use Rattle.sack_state.specs.SackView.{Of}
 use Rattle.front.specs.Inside.{solo_view}
 use Rattle.front.specs.SoloView.{SoloView, StandsForBooks}
-use Rattle.front.proofs.Entered.{sack_leads}
-use Rattle.front.proofs.Told.{as_many_books, in_place_with, is_within, told_result, told_risen, told_same, told_sound}
+use Rattle.front.proofs.Calling.{enters_told_of, keeps_with}
+use Rattle.front.proofs.Told.{is_within, told_result}
 use Rattle.front.proofs.solo.Solo.post_to.Goals as goal
 use Rattle.front.proofs.solo.Solo.post_to.Goals.{in-Ok, in-Err}
 
@@ -22,18 +18,8 @@ pub invariant_of-self : goal.invariant_of-self
 invariant_of-self g c =
     let i = c.self.inside in
     let k = c.from.result in
-    let v = c.index_mut-book.result.now in
     let within = is_within i.sacks.items k c.sack_of-sack.result i.made.sacks c.args.metric c.from.ensures c.sack_of-sack.ensures c.self.invariant.some c.self.invariant.as_many in
-    let there : slice_get i.sacks.items k ≡ Some v = slice_get-get_or i.sacks.items k v within ∙ ap Some (sym c.index_mut-book.ensures.value) in
-    record {
-      some = c.self.invariant.some;
-      few = c.self.invariant.few;
-      as_many = length-set i.sacks.items k c.post.new.self ∙ c.self.invariant.as_many;
-      in_place = in_place_with i.made.sacks 0 k i.sacks.items v c.post.new.self c.self.invariant.in_place there c.post.ensures.same.0;
-      claims = c.self.invariant.claims;
-      emptied = c.self.invariant.emptied;
-      room = c.self.invariant.room;
-    }
+    keeps_with g.D.Disk i c.self.invariant k c.index_mut-book.result.now c.post.new.self within c.index_mut-book.ensures.value c.post.ensures.same.0
 
 pub returns-clause-posts : goal.returns-clause-posts
 returns-clause-posts g c =
@@ -43,24 +29,17 @@ returns-clause-posts g c =
     let v = c.index_mut-book.result.now in
     let w = c.post.new.self in
     let r = c.post.result in
-    let within = is_within i.sacks.items k c.sack_of-sack.result i.made.sacks c.args.metric c.from.ensures c.sack_of-sack.ensures c.self.invariant.some c.self.invariant.as_many in
-    let there : slice_get i.sacks.items k ≡ Some v = slice_get-get_or i.sacks.items k v within ∙ ap Some (sym c.index_mut-book.ensures.value) in
+    let within = is_within i.sacks.items k n i.made.sacks c.args.metric c.from.ensures c.sack_of-sack.ensures c.self.invariant.some c.self.invariant.as_many in
     let told : c.match-post.result ≡ told_result n r = elim c.match-post.branch [
-      | in-Ok w ↦ w.result-is ∙ sym (ap (λ x. told_result n x) w.in-Ok.is)
-      | in-Err w ↦ w.result-is ∙ ap Err w.told_of_sack.ensures ∙ sym (ap (λ x. told_result n x) w.in-Err.is)
+      | in-Ok x ↦ x.result-is ∙ sym (ap (λ q. told_result n q) x.in-Ok.is)
+      | in-Err x ↦ x.result-is ∙ ap Err x.told_of_sack.ensures ∙ sym (ap (λ q. told_result n q) x.in-Err.is)
     ] in
     let later = solo_view (record i { sacks = with_item i.sacks k w }) in
-    let Call = λ (q : Result ℕ SackFault). LeadsTo (StandsForBooks g.D.Disk) c.args.self.now later (Posts c.args.metric c.args.batch.now q) in
-    let leads = sack_leads g.D.Disk k sack_words (IsPosting c.args.metric c.args.batch.now) (told_result n r) (solo_view i) later v w there refl c.post.ensures.same.0 c.post.ensures.same.1
-    (λ h stands. let after = c.post.ensures.stands h stands in (after.own, after.stands, λ counts earlier. subst (λ (q : Result ℕ SackFault). IsPosting c.args.metric c.args.batch.now q (all_counted counts ++ h) after.own) (sym (told_same n r (c.post.ensures.sound counts h stands earlier))) (after.does counts earlier)))
-    (λ counts h stands earlier. told_sound n r (c.post.ensures.sound counts h stands earlier))
-    (told_risen g.D.Disk n r v w (Of v (λ s. s.broken ≡ true)) c.post.ensures.cause) in
-    let posts : LeadsTo (StandsForBooks g.D.Disk) (solo_view i) later (Posts c.args.metric c.args.batch.now (told_result n r)) = λ books is.
-    let new = leads books is in
-    let many = as_many_books g.D.Disk 0 i.sacks.items books.sacks is.sacks ∙ c.self.invariant.as_many in
-    let sack : k ≡ sack_of c.args.metric (length books.sacks) = c.from.ensures ∙ c.sack_of-sack.ensures ∙ ap (λ m. sack_of c.args.metric m) (sym many) in
-    (new.0, new.1, subst (λ (m : ℕ). EntersSack m sack_words (IsPosting c.args.metric c.args.batch.now) (told_result n r) books new.0) sack new.2) in
-    subst Call (sym told) (subst (λ (x : SoloView _). LeadsTo (StandsForBooks g.D.Disk) x later (Posts c.args.metric c.args.batch.now (told_result n r))) c.self.view_is posts)
+    let leads = enters_told_of g.D.Disk i c.self.invariant k v w within c.index_mut-book.ensures.value c.post.ensures.same.0 (IsPosting c.args.metric c.args.batch.now) n r (Of v (λ s. s.broken ≡ true)) c.post.ensures.same.1
+    (λ h known. let after = c.post.ensures.stands h known in (after.own, after.stands, after.does))
+    c.post.ensures.sound c.post.ensures.cause c.args.metric (c.from.ensures ∙ c.sack_of-sack.ensures) in
+    subst (λ (q : Result ℕ SackFault). LeadsTo (StandsForBooks g.D.Disk) c.args.self.now later (Posts c.args.metric c.args.batch.now q)) (sym told)
+    (subst (λ (x : SoloView _). LeadsTo (StandsForBooks g.D.Disk) x later (Posts c.args.metric c.args.batch.now (told_result n r))) c.self.view_is leads)
 
 pub returns-clause-as_many : goal.returns-clause-as_many
 returns-clause-as_many g c = length-set c.self.inside.sacks.items c.from.result c.post.new.self ∙ ap (λ v. length v.sacks) c.self.view_is
