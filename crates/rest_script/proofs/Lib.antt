@@ -1,0 +1,6 @@
+mod LineLemmas
+mod ReaderLemmas
+mod ReplyLemmas
+mod ServingLemmas
+pub mod ScriptLaws
+mod AcceptedLines

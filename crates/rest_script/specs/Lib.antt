@@ -1,0 +1,4 @@
+pub mod Lines
+pub mod Replying
+pub mod Serving
+pub mod Laws
