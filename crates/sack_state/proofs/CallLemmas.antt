@@ -19,7 +19,7 @@ use Rattle.sack_history.specs.Entries.{all_counted, kept, what_counts, found_fro
 use Rattle.sack_history.specs.Failing.{Failure, HasRisen, IsMounted, damage, mounted, no_memory, on_disk, unmounted, whole}
 use Rattle.sack_history.specs.Holding.{broken_after, held_after, held_claim, is_broken, last_ticket, open_tried, ticket_after, tried_after}
 use Rattle.sack_history.specs.Legal.{MayComeNext}
-use Rattle.sack_history.specs.Scratch.{durable}
+use Rattle.sack_history.specs.Scratch.{Durable, durable}
 use Rattle.sack_history.proofs.Following.{FollowOn-more}
 use Rattle.sack_history.proofs.Held.{held-more, holds_well, ticket-more}
 use Rattle.sack_history.proofs.Keeping.{broken-more, kept-noted, tried-more}
@@ -32,7 +32,7 @@ use Rattle.sack_state.specs.Disks.{AreTold, sack_faults}
 use Rattle.sack_state.specs.Holding.{StaysBroken, TakesBooks, as_they_were, mounted_anew, state_of}
 use Rattle.sack_state.specs.SackCalls.{entries_of_call}
 use Rattle.sack_state.specs.SackHolding.{AreOfHistory, AreOldOrWritten, HoldsNoSack, HoldsSack, IsDamagedSack}
-use Rattle.sack_state.specs.SackView.{AreReal, AtAnyMoment, HasNoEarlier, IsEarlier, IsScratch, OfBoth, Remembers, SackState, SackView, Stands, StandsAfter, StandsFor, all_along, capped, once_mounted}
+use Rattle.sack_state.specs.SackView.{AreReal, AtAnyMoment, HasDurable, HasNoEarlier, IsEarlier, IsScratch, OfBoth, Remembers, SackState, SackView, Stands, StandsAfter, StandsFor, all_along, capped, once_mounted}
 use Rattle.sack_state.proofs.DiskLemmas.{capped_least, faults_later, no_less, tell_later}
 use Rattle.sack_state.proofs.DoneLemmas.{IsDone, state_with, whole_books}
 use Rattle.sack_state.proofs.KnowLemmas.{differ}
@@ -62,7 +62,8 @@ module _ {D : Type 0} (g : Ghosts D) (tells : (n : ℕ) (old new : D) → g.came
   -- ---- books that were taken
 
   module _ (Own : List Entry → List Entry → Type 0) (Fails : Failure → Type 0) (written : List Counted → Option Counted) (books new : Books D) (anew : Bool) (then_is : then ≡ Some (Mounted new)) (e : Entry)
-      (count : k ≡ capped (n + entries_of_call anew)) (real : (N : Type 0) → AreReal N (sack_faults g (disks_of books)) (e ∷ []) (sack_faults g (disks_of new)))
+      (count : k ≡ capped (n + entries_of_call anew))
+      (real : (((d : Durable) → HasDurable g books d → ⊥) → HasNoEarlier g place opening) → AreReal (HasNoEarlier g place opening) (sack_faults g (disks_of books)) (e ∷ []) (sack_faults g (disks_of new)))
       (done : (v : SackView D) → v.place ≡ place → v.held ≡ cond anew None claim → v.tickets ≡ tickets → (history : List Entry) → IsScratch g v (record { disks = disks_of books; books = books; broken = false }) history
       → IsDone g place Own written books new (view_of then place opening left given k) e history) where
     abbrev written_from : List Entry → List ℕ → List ℕ → List ℕ → List ℕ → List ℕ → Type 0
@@ -94,7 +95,8 @@ module _ {D : Type 0} (g : Ghosts D) (tells : (n : ℕ) (old new : D) → g.came
         own = e ∷ [];
         stands = stands_then (h ++ e ∷ []) (record {
           behind = λ earlier legal. subst (IsScratch g after (state_with new)) (append_assoc (all_counted earlier) h (e ∷ [])) (done_here earlier legal).scratch;
-          real = AreReal-append (HasNoEarlier g place opening) (sack_faults g opening.disks) h (e ∷ []) (sack_faults g (disks_of books)) (sack_faults g (disks_of new)) here.real (real (HasNoEarlier g place opening));
+          real = AreReal-append (HasNoEarlier g place opening) (sack_faults g opening.disks) h (e ∷ []) (sack_faults g (disks_of books)) (sack_faults g (disks_of new)) here.real
+              (real (λ none earlier legal. none (durable (kept (all_counted earlier ++ h))) ((here.behind earlier legal).has (whole_books books unbroken))));
         });
         counted = count ∙ ap (λ b. capped (n + entries_of_call b)) not_anew;
         does = λ earlier legal. whole (sym (here.behind earlier legal).broken ∙ whole_books books unbroken) (done_here earlier legal).does;
@@ -118,10 +120,12 @@ module _ {D : Type 0} (g : Ghosts D) (tells : (n : ℕ) (old new : D) → g.came
       abbrev freed : SackView D
       freed = view_of keeping place opening None tickets n
 
+      reopened_there : (earlier : List Counted) → IsEarlier g place opening earlier → IsScratch g freed (record { disks = disks_of books; books = books; broken = false }) ((all_counted earlier ++ h) ++ r ∷ [])
+      reopened_there earlier legal = reopened g reads before (state_of was) broken books from (all_counted earlier ++ h) (there.behind earlier legal) tells freed refl refl refl
+
       done_there : (earlier : List Counted) → IsEarlier g place opening earlier → IsDone g place Own written books new after e ((all_counted earlier ++ h) ++ r ∷ [])
       done_there earlier legal =
-          done freed refl (ap (λ b. cond b None claim) (sym is_anew)) refl ((all_counted earlier ++ h) ++ r ∷ [])
-          (reopened g reads before (state_of was) broken books from (all_counted earlier ++ h) (there.behind earlier legal) tells freed refl refl refl)
+          done freed refl (ap (λ b. cond b None claim) (sym is_anew)) refl ((all_counted earlier ++ h) ++ r ∷ []) (reopened_there earlier legal)
 
       anew_then : StandsAfter g h written before after (λ b own. IsMounted metric Own Fails b own)
       anew_then =
@@ -131,7 +135,8 @@ module _ {D : Type 0} (g : Ghosts D) (tells : (n : ℕ) (old new : D) → g.came
             stands = stands_then (h ++ r ∷ e ∷ []) (record {
               behind = λ earlier legal. subst (IsScratch g after (state_with new)) (append_assoc (all_counted earlier ++ h) (r ∷ []) (e ∷ []) ∙ append_assoc (all_counted earlier) h (r ∷ e ∷ [])) (done_there earlier legal).scratch;
               real = AreReal-append (HasNoEarlier g place opening) (sack_faults g opening.disks) h (r ∷ e ∷ []) (sack_faults g (state_of was).disks) (sack_faults g (disks_of new)) there.real
-                  (AreReal-lower (HasNoEarlier g place opening) (sack_faults g (state_of was).disks) (sack_faults g (disks_of books)) (e ∷ []) (sack_faults g (disks_of new)) le (real (HasNoEarlier g place opening)));
+                  (AreReal-lower (HasNoEarlier g place opening) (sack_faults g (state_of was).disks) (sack_faults g (disks_of books)) (e ∷ []) (sack_faults g (disks_of new)) le
+                  (real (λ none earlier legal. none (durable (kept ((all_counted earlier ++ h) ++ r ∷ []))) ((reopened_there earlier legal).has refl))));
             });
             counted = count ∙ ap (λ b. capped (n + entries_of_call b)) is_anew;
             does = λ earlier legal. mounted found (e ∷ []) (may_reopen g reads before (state_of was) broken books from (all_counted earlier ++ h) (there.behind earlier legal)) refl (done_there earlier legal).does;
@@ -145,10 +150,20 @@ module _ {D : Type 0} (g : Ghosts D) (tells : (n : ℕ) (old new : D) → g.came
                 }))));
           }
 
-    pub call_after : TakesBooks g place keeping books anew → (h : List Entry) → StandsFor g h (view_of keeping place opening claim tickets n)
+    pub call_after_if : TakesBooks g place keeping books anew → (h : List Entry) → StandsFor g h (view_of keeping place opening claim tickets n)
         → StandsAfter g h written (view_of keeping place opening claim tickets n) (view_of then place opening left given k) (λ b own. IsMounted metric Own Fails b own)
-    call_after (as_they_were is unbroken lasting not_anew) h stands = as_it_was is unbroken not_anew h stands
-    call_after (mounted_anew was is broken from is_anew) h stands = anew_then was is broken from is_anew h stands
+    call_after_if (as_they_were is unbroken lasting not_anew) h stands = as_it_was is unbroken not_anew h stands
+    call_after_if (mounted_anew was is broken from is_anew) h stands = anew_then was is broken from is_anew h stands
+
+  -- the same, where the fault of the call is real whatever may have counted
+  pub call_after : (Own : List Entry → List Entry → Type 0) (Fails : Failure → Type 0) (written : List Counted → Option Counted) (books new : Books D) (anew : Bool) → then ≡ Some (Mounted new) → (e : Entry)
+      → k ≡ capped (n + entries_of_call anew) → ((N : Type 0) → AreReal N (sack_faults g (disks_of books)) (e ∷ []) (sack_faults g (disks_of new)))
+      → ((v : SackView D) → v.place ≡ place → v.held ≡ cond anew None claim → v.tickets ≡ tickets → (history : List Entry) → IsScratch g v (record { disks = disks_of books; books = books; broken = false }) history
+      → IsDone g place Own written books new (view_of then place opening left given k) e history)
+      → TakesBooks g place keeping books anew → (h : List Entry) → StandsFor g h (view_of keeping place opening claim tickets n)
+      → StandsAfter g h written (view_of keeping place opening claim tickets n) (view_of then place opening left given k) (λ b own. IsMounted metric Own Fails b own)
+  call_after Own Fails written books new anew then_is e count real done takes h stands =
+      call_after_if Own Fails written books new anew then_is e count (λ none. real (HasNoEarlier g place opening)) done takes h stands
 
   -- ---- a mounting that failed
 

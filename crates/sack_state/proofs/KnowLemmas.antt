@@ -14,13 +14,14 @@ use Rattle.shelf_records.specs.Shelved.{Shelved, metric_of}
 use Rattle.sack_history.specs.declared.entry.Counted.{Counted}
 use Rattle.sack_history.specs.declared.entry.Counted.TheVariants as counted
 use Rattle.sack_history.specs.Legal.{IsLegalCount, MayCount, MayPost}
-use Rattle.sack_history.specs.Lives.{Life, Posted, batches_of, born, done_in, done_up_to, is_live, last_post, life_of, live_ids, next_post, pending_posts}
+use Rattle.sack_history.specs.Lives.{Life, Posted, batches_of, born, done_in, done_of, done_up_to, is_live, last_post, life_of, live_ids, next_post, pending_posts}
 use Rattle.sack_history.specs.Scratch.{durable, live_of, metrics_from_scratch}
 use Rattle.sack_history.proofs.Living.{last_post-more, life-created, life-done, life-dropped}
 use Rattle.sack_history.proofs.Posting.{behind}
 use Rattle.sack_history.proofs.Stating.{metrics-posted, pending_posts-posted, scratch_found, scratch_ids}
 use Rattle.sack_history.proofs.Turning.{done_later}
 use Rattle.sack_state.specs.declared.books.Books.{Books}
+use Rattle.sack_state.specs.Committing.{done_in_record}
 use Rattle.sack_state.specs.Posting.{knows}
 use Rattle.sack_state.specs.SackHolding.{posted_of, waiting_among, waits_among, waits_for}
 use Rattle.sack_state.specs.SackView.{Remembers, Standing, is_above_done, mark_by, marks_waiting, standing_by, standing_of}
@@ -81,6 +82,27 @@ none_known (Some x) e = absurd cc
 pub knows_live : {D : Type 0} (b : Books D) (counts : List Counted) (m : MetricId) → Remembers b (durable counts) → knows m b ≡ is_live m counts
 knows_live b counts m remembers =
     known_among m b.shelf.metrics ∙ ap (λ l. is_some (done_among m l)) remembers.standings ∙ ap is_some (done_standing counts m) ∙ some_map _ (life_of m counts)
+
+-- its done number, 0 where it isn't live
+abbrev number_or : Option ℕ → ℕ
+number_or None = 0
+number_or (Some n) = n
+
+done_by_records : (m : MetricId) (metrics : List Shelved) → done_in_record (metric_of m metrics) ≡ number_or (done_among m (map standing_by metrics))
+done_by_records m [] = refl
+done_by_records m (x ∷ metrics) = by (eqb x.id.0 m.0) (done_by_records m metrics)
+  where
+    by : (b : Bool) → done_in_record (metric_of m metrics) ≡ number_or (done_among m (map standing_by metrics)) → done_in_record (cond b (Some x) (metric_of m metrics)) ≡ number_or (cond b (Some x.done) (done_among m (map standing_by metrics)))
+    by true rest = refl
+    by false rest = rest
+
+done_by_life : (o : Option Life) → number_or (option_map (λ (life : Life). life.done) o) ≡ done_in o
+done_by_life None = refl
+done_by_life (Some life) = refl
+
+pub done_known : {D : Type 0} (b : Books D) (counts : List Counted) (m : MetricId) → Remembers b (durable counts) → done_in_record (metric_of m b.shelf.metrics) ≡ done_of m counts
+done_known b counts m remembers =
+    done_by_records m b.shelf.metrics ∙ ap (λ l. number_or (done_among m l)) remembers.standings ∙ ap number_or (done_standing counts m) ∙ done_by_life (life_of m counts)
 
 -- ---- which posts wait
 

@@ -2,7 +2,7 @@
 use Rattle.std.proofs.Common.{◌≡◌, inl, inr, ℕ, ◌+◌, ◌-◌, ◌≤◌, Bool, true, false, cond, eqb, not, List, [], ◌∷◌, ◌++◌, map, Option, Some, None, refl, sym, ap, subst, ◌∙◌, arith}
 use Rattle.std.specs.List.{filter}
 use Rattle.std.specs.Option.{IfSome, is_some, option_map}
-use Rattle.std.proofs.lemmas.Bool.{cases_eq, eq-eqb, ne_eqb, le-ltb}
+use Rattle.std.proofs.lemmas.Bool.{cases_eq, eq-eqb, ne_eqb, le-ltb, ltb-false}
 use Rattle.std.proofs.lemmas.List.Elements.{filter_agree}
 use Rattle.archive_policy.specs.Policies.{ArchivePolicy, IsArchivePolicy}
 use Rattle.series_model.specs.declared.measure.Measure.{Measure}
@@ -14,9 +14,10 @@ use Rattle.split_update.specs.Live.{live_from_scratch}
 use Rattle.sack_history.specs.declared.entry.Counted.{Counted}
 use Rattle.sack_history.specs.declared.entry.Counted.TheVariants as counted
 use Rattle.sack_history.specs.Legal.{IsLegalCount}
-use Rattle.sack_history.specs.Lives.{Life, Posted, batches_of, is_waiting, last_post, life_of, next_post, pending_posts, waits_in}
+use Rattle.sack_history.specs.Lives.{Life, Posted, batches_of, done_in, done_of, done_up_to, is_waiting, last_post, life_of, next_post, pending_posts, waits_in}
 use Rattle.sack_history.specs.Scratch.{metrics_from_scratch, with_live, without_live}
-use Rattle.sack_history.proofs.Living.{last_post-more, life-created, life-dropped, life-other, same_id}
+use Rattle.sack_history.proofs.Draining.{pending_posts-done}
+use Rattle.sack_history.proofs.Living.{last_post-more, life-created, life-done, life-dropped, life-other, same_id}
 use Rattle.sack_history.proofs.Numbers.{AtMost}
 use Rattle.sack_history.proofs.Stating.{metrics-created, metrics-dropped, pending-created_other, pending_posts-dropped, scratch_found}
 use Rattle.sack_state.specs.Changing.{ArePostsBelow, IsValid}
@@ -136,6 +137,37 @@ module _ (k : MetricId) (counts : List Counted) where
       ∙ ap (filter of_others) (is ∙ waiting_is counts posts)
       ∙ two_tests (is_waiting counts) of_others (is_waiting without_it) (λ q w. dropped_wait q true w) (λ q w. dropped_wait q false w) (map posted_of posts)
       ∙ sym (waiting_is without_it posts)
+
+-- ---- posts that are done
+
+module _ (k : MetricId) (u : ℕ) (counts : List Counted) (later : done_of k counts ≤ u) where
+  abbrev with_done : List Counted
+  with_done = counts ++ counted.Done k u ∷ []
+
+  -- what doesn't wait before doesn't wait then
+  done_wait : (q : Posted) → is_waiting counts q ≡ false → is_waiting with_done q ≡ false
+  done_wait q is = elim (cases_eq q.metric.0 k.0) [
+    | inl same ↦
+        let own = same_id q.metric k same in
+        ap (λ (m : MetricId). waits_in q (life_of m with_done)) own ∙ ap (waits_in q) (life-done k u counts)
+        ∙ by (life_of k counts) later (sym (ap (λ (m : MetricId). waits_in q (life_of m counts)) own) ∙ is)
+    | inr other ↦ ap (waits_in q) (life-other q.metric counts (counted.Done k u) (ne_eqb k.0 q.metric.0 (λ e. other (sym e)))) ∙ is
+  ]
+    where
+      by : (o : Option Life) → done_in o ≤ u → waits_in q o ≡ false → waits_in q (option_map (done_up_to u) o) ≡ false
+      by None le none = refl
+      by (Some life) le none = le-ltb u q.number (let n : q.number ≤ life.done = ltb-false life.done q.number none in omega (arith, n, le))
+
+  pub done_next : next_post (counts ++ counted.Done k u ∷ []) ≡ next_post counts
+  done_next = ap (λ n. n + 1) (last_post-more counts (counted.Done k u))
+
+  pub done_pending : (posts : List Post) → pending_posts counts ≡ waiting_among (metrics_from_scratch counts) posts
+      → pending_posts (counts ++ counted.Done k u ∷ []) ≡ waiting_among (metrics_from_scratch (counts ++ counted.Done k u ∷ [])) posts
+  done_pending posts is =
+      pending_posts-done k u counts later
+      ∙ ap (filter (is_waiting with_done)) (is ∙ waiting_is counts posts)
+      ∙ two_tests (is_waiting counts) (is_waiting with_done) (is_waiting with_done) (λ q w. refl) done_wait (map posted_of posts)
+      ∙ sym (waiting_is with_done posts)
 
 -- ---- whether a metric is live
 

@@ -1,10 +1,14 @@
+pub mod Answering
 pub mod Books
 pub mod Changing
+pub mod Claiming
+pub mod Committing
 pub mod Disks
 pub mod Holding
 pub mod Inside
 pub mod Posting
 pub mod SackCalls
 pub mod SackHolding
+pub mod SackTurns
 pub mod SackView
 pub mod Waiting

@@ -1,28 +1,39 @@
 // The sack.
-ghost use Rattle.std.specs.Prelude.{◌≡◌, ◌+◌, ◌||◌, ◌++◌, [], ◌∷◌, List, Some, None, IfOk, IfErr, length, map, option_map, if◌then◌else◌, false, true, ⊤};
+ghost use Rattle.std.specs.Prelude.{◌≡◌, ◌≢◌, ◌⊎◌, ◌+◌, ◌||◌, ◌++◌, [], ◌∷◌, List, Some, None, IfOk, IfErr, length, map, option_map, if◌then◌else◌, false, true, ⊤};
 ghost use Rattle.gate_log.specs.LogView.{MatchMountFault};
 ghost use Rattle.sack_history.specs.declared.entry.Counted.{Counted};
 ghost use Rattle.sack_history.specs.declared.entry.Counted.TheVariants as counted;
 ghost use Rattle.sack_history.specs.declared.entry.Entry.{Entry};
 ghost use Rattle.sack_history.specs.declared.entry.Entry.TheVariants as entries;
-ghost use Rattle.sack_history.specs.Calls.{IsCreating, IsDropping, IsPosting, IsReleasing};
+ghost use Rattle.sack_history.specs.Calls.{IsAnswering, IsClaiming, IsCommitting, IsCreating, IsDraining, IsDropping, IsPosting, IsRefreshing, IsReleasing};
 ghost use Rattle.sack_history.specs.Entries.{all_counted, kept};
 ghost use Rattle.sack_history.specs.Holding.{held_after, holder_of, is_broken};
 ghost use Rattle.sack_history.specs.Lives.{live_ids, next_post, pending_posts};
+ghost use Rattle.sack_history.specs.Turns.{drain_turns, refresh_turns};
 ghost use Rattle.sack_state.specs.Books.{AreMaking, IsUnmade, IsUnmounted};
+ghost use Rattle.sack_state.specs.Claiming.{KeepsNone, claim_given, tickets_given};
+ghost use Rattle.sack_state.specs.Committing.{CameByCommit, entries_of_turns};
 ghost use Rattle.sack_state.specs.Disks.{CameWithin, IsSackFault, OnIncoming, OnShelfLog, TellAll, sack_phases};
-ghost use Rattle.sack_state.specs.SackCalls.{MatchCreateOnDisk, MatchOnDisk, entries_of_call, is_holder};
+ghost use Rattle.sack_state.specs.SackCalls.{HandsBack, HasTicketOf, MatchAnswerOnDisk, MatchCommitOnDisk, MatchCreateOnDisk, MatchOnDisk, entries_of_call};
+ghost use Rattle.sack_state.specs.SackTurns.{StandsAfterTurns};
 ghost use Rattle.sack_state.specs.SackView.{IsEarlier, Of, OfBoth, StandsAfter, StandsFor, capped, marks_waiting};
 ghost use Rattle.gno_disk.specs.Phases.{AreUnwritten};
 
+use crate::answering::answering_fault;
 use crate::books::{make_books, mount_books};
+use crate::claiming::is_holder;
+use crate::committing::committing_fault;
 use crate::disks::{Opening, SackDisks};
 use crate::holding::{Keeping, Remains, put_back, take_books};
 use archive_policy::Policy;
+use bound_series::Prepared;
 use gno_disk::Disk;
 use log_pair::{LogFault, MountFault, Place};
-use sack_history::{CreateFault, HeldClaim, ReleaseFault, SackFault};
-use series_model::{Batch, MetricId, Ticket};
+use sack_history::{
+    AnswerFault, Claim, CommitFault, CreateFault, HeldClaim, ReleaseFault, SackFault,
+};
+use series_model::{Answer, Batch, MetricId, Query, Ticket};
+use split_update::turn_is_from_scratch;
 use std::alloc::Global;
 use std::marker::Model;
 use std::snapshot::Snapshot;
@@ -85,21 +96,26 @@ fn entries_after(entries: u64, anew: bool) -> u64
     }
 }
 
+/// How many entries there are after a call that took so many turns, and was refused behind them or not.
+fn entries_after_turns(entries: u64, anew: bool, turns: u64, ok: bool) -> u64
+    ensures { result ≡ capped (entries + ((if anew then 1 else 0) + entries_of_turns turns ok)) }
+{
+    let own = if turns == 0 {
+        1
+    } else if ok {
+        turns
+    } else {
+        turns.saturating_add(1)
+    };
+    let mounting = if anew { 1 } else { 0 };
+    entries.saturating_add(mounting).saturating_add(own)
+}
+
 /// The claim that is still held: none where the books were mounted anew, or have broken.
 fn claim_left(claim: Option<HeldClaim>, anew: bool, broken: bool) -> Option<HeldClaim>
     ensures { result ≡ (if anew || broken then None else claim) }
 {
     if anew || broken { None } else { claim }
-}
-
-/// Whether the claim that is held has this ticket.
-fn is_holder(ticket: Ticket, claim: Option<HeldClaim>) -> bool
-    ensures { result ≡ is_holder ticket claim }
-{
-    match claim {
-        Some(held) => ticket.sack == held.ticket.sack && ticket.number == held.ticket.number,
-        None => false,
-    }
 }
 
 /// The claim that is still held: none where its metric was dropped.
@@ -109,6 +125,30 @@ fn claim_without(claim: Option<HeldClaim>, metric: MetricId, dropped: bool) -> O
     match claim {
         Some(held) if dropped && metric.0 == held.metric.0 => None,
         _ => claim,
+    }
+}
+
+/// The claim that is held after a claim with this answer.
+fn claim_given(held: Option<HeldClaim>, given: &Result<Claim, SackFault>) -> Option<HeldClaim>
+    ensures { result ≡ claim_given held given.now }
+{
+    match given {
+        Ok(Claim::Job(job)) => Some(HeldClaim {
+            ticket: job.ticket(),
+            metric: job.metric(),
+            upto: job.upto(),
+        }),
+        _ => held,
+    }
+}
+
+/// The number of the last ticket after a claim with this answer.
+fn tickets_given(tickets: u64, given: &Result<Claim, SackFault>) -> u64
+    ensures { result ≡ tickets_given tickets given.now }
+{
+    match given {
+        Ok(Claim::Job(job)) => job.ticket().number,
+        _ => tickets,
     }
 }
 
@@ -265,6 +305,152 @@ impl<D: Disk> Sack<D> {
             }
         };
         let result = books.post(metric, batch);
+        self.claim = claim_left(self.claim, anew, books.is_broken());
+        put_back(&mut self.keeping, Keeping::Mounted(books));
+        self.entries = entries_after(self.entries, anew);
+        result
+    }
+
+    /// Work on the metric whose post has waited longest, unless a claim is held: its first 64 posts that wait, or all where
+    /// there are fewer. It never answers `Unknown`. It writes nothing.
+    pub fn claim(&mut self) -> Result<Claim, SackFault>
+        // By its history: what it answers and adds, what it stands for then, and what a stop leaves at any moment.
+        ensures stands { (h : List Entry) → StandsFor D.Disk h self.old → StandsAfter D.Disk h (λ _. None) self.old self.new (IsClaiming self.old.place.sack result) }
+        ensures same { (self.new.place ≡ self.old.place) × (self.new.opening ≡ self.old.opening) }
+        ensures known { IfErr result (λ e. e ≢ SackFault.Unknown) }
+        ensures of_place { IfOk result (HasTicketOf self.old.place.sack) }
+        ensures cause { IfErr result (λ e. MatchOnDisk e (λ f. OfBoth self.old self.new (λ s t. IsSackFault D.Disk s.disks t.disks f)) (Of self.old (λ s. (s.broken ≡ true) ⊎ KeepsNone D.Disk s.books))) }
+        ensures sound { (earlier : List Counted) (h : List Entry) → StandsFor D.Disk h self.old → IsEarlier D.Disk self.old.place self.old.opening earlier
+            → IfErr result (λ e. MatchOnDisk e (λ f. ⊤) ⊥) }
+        ensures came { OfBoth self.old self.new (λ s t. CameWithin D.Disk 2 2 1 s.disks t.disks) }
+        ensures reads { OfBoth self.old self.new (λ s t. AreUnwritten D.Disk (sack_phases s.disks t.disks)) }
+    {
+        let taken = take_books(self.alloc, &mut self.keeping, self.place);
+        let (mut books, anew) = match taken {
+            Ok(taken) => taken,
+            Err(fault) => {
+                self.entries = self.entries.saturating_add(1);
+                return Err(refusal_of(fault));
+            }
+        };
+        let held = claim_left(self.claim, anew, false);
+        let result = books.claim(self.alloc, held, self.place.sack, self.tickets);
+        self.claim = claim_left(claim_given(held, &result), false, books.is_broken());
+        self.tickets = tickets_given(self.tickets, &result);
+        put_back(&mut self.keeping, Keeping::Mounted(books));
+        self.entries = entries_after(self.entries, anew);
+        result
+    }
+
+    /// Commits prepared work, if it is that of the held claim, which has ended then, and answers the metric's done number. All
+    /// memory is taken before the first write. Where there was none, or the work is another, it is handed back.
+    pub fn commit(&mut self, prepared: Prepared) -> Result<u64, CommitFault>
+        // By its history: what it answers and adds, what it stands for then, and what a stop leaves at any moment.
+        ensures stands { (h : List Entry) → StandsFor D.Disk h self.old → StandsAfter D.Disk h
+            (λ counts. Some (counted.Done prepared.job.metric prepared.job.upto)) self.old self.new (IsCommitting prepared result) }
+        ensures same { (self.new.place ≡ self.old.place) × (self.new.opening ≡ self.old.opening) × (self.new.tickets ≡ self.old.tickets) }
+        ensures back { IfErr result (HandsBack prepared) }
+        ensures cause { IfErr result (λ e. MatchCommitOnDisk e (λ f. OfBoth self.old self.new (λ s t. IsSackFault D.Disk s.disks t.disks f)) (Of self.old (λ s. (s.broken ≡ true) ⊎ KeepsNone D.Disk s.books))) }
+        ensures sound { (earlier : List Counted) (h : List Entry) → StandsFor D.Disk h self.old → IsEarlier D.Disk self.old.place self.old.opening earlier
+            → IfErr result (λ e. MatchCommitOnDisk e (λ f. ⊤) ⊥) }
+        ensures came { OfBoth self.old self.new (λ s t. CameByCommit D.Disk prepared s.disks t.disks) }
+    {
+        // What a turn leaves is from scratch: this says so.
+        turn_is_from_scratch();
+        let taken = take_books(self.alloc, &mut self.keeping, self.place);
+        let (mut books, anew) = match taken {
+            Ok(taken) => taken,
+            Err(fault) => {
+                self.entries = self.entries.saturating_add(1);
+                return Err(committing_fault(refusal_of(fault), prepared));
+            }
+        };
+        let held = claim_left(self.claim, anew, false);
+        let result = books.commit(self.alloc, held, prepared);
+        self.claim = claim_left(held, result.is_ok(), books.is_broken());
+        put_back(&mut self.keeping, Keeping::Mounted(books));
+        self.entries = entries_after(self.entries, anew);
+        result
+    }
+
+    /// Processes all posts of a live metric, at most 64 in a turn, and answers its done number. A claim of the metric has
+    /// ended then. After a refusal the turns that were taken stay.
+    pub fn refresh(&mut self, metric: MetricId) -> Result<u64, SackFault>
+        // By its history: what it answers and adds, what it stands for then, and what a stop leaves at any moment.
+        ensures stands { (h : List Entry) → StandsFor D.Disk h self.old → StandsAfterTurns D.Disk h (refresh_turns metric) self.old self.new (IsRefreshing metric result) }
+        ensures same { (self.new.place ≡ self.old.place) × (self.new.opening ≡ self.old.opening) × (self.new.tickets ≡ self.old.tickets) }
+        ensures cause { IfErr result (λ e. MatchOnDisk e (λ f. OfBoth self.old self.new (λ s t. IsSackFault D.Disk s.disks t.disks f)) ⊤) }
+        ensures sound { (earlier : List Counted) (h : List Entry) → StandsFor D.Disk h self.old → IsEarlier D.Disk self.old.place self.old.opening earlier
+            → IfErr result (λ e. MatchOnDisk e (λ f. ⊤) ⊥) }
+    {
+        // What a turn leaves is from scratch: this says so.
+        turn_is_from_scratch();
+        let taken = take_books(self.alloc, &mut self.keeping, self.place);
+        let (mut books, anew) = match taken {
+            Ok(taken) => taken,
+            Err(fault) => {
+                self.entries = self.entries.saturating_add(1);
+                return Err(refusal_of(fault));
+            }
+        };
+        let held = claim_left(self.claim, anew, false);
+        let turned = books.refresh(self.alloc, metric, held);
+        self.claim = claim_left(turned.held, false, books.is_broken());
+        put_back(&mut self.keeping, Keeping::Mounted(books));
+        self.entries = entries_after_turns(self.entries, anew, turned.turns, turned.result.is_ok());
+        turned.result
+    }
+
+    /// Processes all posts of all live metrics, always those of the metric whose post has waited longest, at most 64 in a
+    /// turn, and answers the number of turns. A claim has ended then. It never answers `Unknown`. After a refusal the turns
+    /// that were taken stay.
+    pub fn drain(&mut self) -> Result<u64, SackFault>
+        // By its history: what it answers and adds, what it stands for then, and what a stop leaves at any moment.
+        ensures stands { (h : List Entry) → StandsFor D.Disk h self.old → StandsAfterTurns D.Disk h drain_turns self.old self.new (IsDraining result) }
+        ensures same { (self.new.place ≡ self.old.place) × (self.new.opening ≡ self.old.opening) × (self.new.tickets ≡ self.old.tickets) }
+        ensures known { IfErr result (λ e. e ≢ SackFault.Unknown) }
+        ensures cause { IfErr result (λ e. MatchOnDisk e (λ f. OfBoth self.old self.new (λ s t. IsSackFault D.Disk s.disks t.disks f)) ⊤) }
+        ensures sound { (earlier : List Counted) (h : List Entry) → StandsFor D.Disk h self.old → IsEarlier D.Disk self.old.place self.old.opening earlier
+            → IfErr result (λ e. MatchOnDisk e (λ f. ⊤) ⊥) }
+    {
+        // What a turn leaves is from scratch: this says so.
+        turn_is_from_scratch();
+        let taken = take_books(self.alloc, &mut self.keeping, self.place);
+        let (mut books, anew) = match taken {
+            Ok(taken) => taken,
+            Err(fault) => {
+                self.entries = self.entries.saturating_add(1);
+                return Err(refusal_of(fault));
+            }
+        };
+        let held = claim_left(self.claim, anew, false);
+        let turned = books.drain(self.alloc, held);
+        self.claim = claim_left(turned.held, false, books.is_broken());
+        put_back(&mut self.keeping, Keeping::Mounted(books));
+        self.entries = entries_after_turns(self.entries, anew, turned.turns, turned.result.is_ok());
+        turned.result
+    }
+
+    /// The rows that a query of a live metric asks for. It writes nothing.
+    pub fn answer(&mut self, metric: MetricId, query: &Query) -> Result<Answer, AnswerFault>
+        // By its history: what it answers and adds, what it stands for then, and what a stop leaves at any moment.
+        ensures stands { (h : List Entry) → StandsFor D.Disk h self.old → StandsAfter D.Disk h (λ _. None) self.old self.new (IsAnswering metric query.now result) }
+        ensures same { (self.new.place ≡ self.old.place) × (self.new.opening ≡ self.old.opening) × (self.new.tickets ≡ self.old.tickets) }
+        ensures cause { IfErr result (λ e. MatchAnswerOnDisk e (λ f. OfBoth self.old self.new (λ s t. IsSackFault D.Disk s.disks t.disks f)) (Of self.old (λ s. (s.broken ≡ true) ⊎ KeepsNone D.Disk s.books))) }
+        ensures sound { (earlier : List Counted) (h : List Entry) → StandsFor D.Disk h self.old → IsEarlier D.Disk self.old.place self.old.opening earlier
+            → IfErr result (λ e. MatchAnswerOnDisk e (λ f. ⊤) ⊥) }
+        ensures came { OfBoth self.old self.new (λ s t. CameWithin D.Disk 2 2 1 s.disks t.disks) }
+        ensures reads { OfBoth self.old self.new (λ s t. AreUnwritten D.Disk (sack_phases s.disks t.disks)) }
+    {
+        let taken = take_books(self.alloc, &mut self.keeping, self.place);
+        let (mut books, anew) = match taken {
+            Ok(taken) => taken,
+            Err(fault) => {
+                self.entries = self.entries.saturating_add(1);
+                return Err(answering_fault(refusal_of(fault)));
+            }
+        };
+        let result = books.answer(self.alloc, metric, query);
         self.claim = claim_left(self.claim, anew, books.is_broken());
         put_back(&mut self.keeping, Keeping::Mounted(books));
         self.entries = entries_after(self.entries, anew);

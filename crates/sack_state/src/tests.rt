@@ -1,9 +1,11 @@
 // Sacks on disks in memory. Each call stands in a function of its own: the contracts are long.
-use crate::{CreateFault, Place, Sack, SackDisks, SackFault};
+use crate::{Claim, CommitFault, CreateFault, Place, Sack, SackDisks, SackFault};
 use archive_policy::{Kind, Name, Policy, Wanted};
+use bound_series::{Job, Prepared};
 use gno_disk::{Fusible, MemDisk};
 use gno_num::{Span, Stamp, Value};
-use series_model::{Batch, Measure, MetricId};
+use regroup::prepare;
+use series_model::{Batch, Measure, MetricId, Query};
 use std::alloc::Global;
 use std::test::Fail;
 
@@ -186,6 +188,162 @@ fn a_broken_sack_tells_what_it_knew(rt: HostRuntime) -> Result<(), Fail> {
     assert_eq!(rt;
         fails_twice(alloc, disks, &batch),
         Some((true, true, (2, 1, 1)))
+    );
+    Ok(())
+}
+
+fn create_other(sack: &mut Sack<MemDisk>, policy: &Policy) -> bool {
+    sack.create_metric(OTHER, policy).is_ok()
+}
+
+fn post_other(sack: &mut Sack<MemDisk>, batch: &Batch) -> Option<u64> {
+    sack.post(OTHER, batch).ok()
+}
+
+fn claim(sack: &mut Sack<MemDisk>) -> Option<Job> {
+    match sack.claim() {
+        Ok(Claim::Job(job)) => Some(job),
+        _ => None,
+    }
+}
+
+fn commit(sack: &mut Sack<MemDisk>, prepared: Prepared) -> Option<u64> {
+    sack.commit(prepared).ok()
+}
+
+fn is_stale(sack: &mut Sack<MemDisk>, prepared: Prepared) -> bool {
+    matches!(
+        sack.commit(prepared),
+        Err(CommitFault::NotHolder {
+            given: _,
+            holder: None
+        })
+    )
+}
+
+fn drop_other(sack: &mut Sack<MemDisk>) -> bool {
+    sack.drop_metric(OTHER).is_ok()
+}
+
+fn done_by_refresh(sack: &mut Sack<MemDisk>) -> Option<u64> {
+    sack.refresh(METRIC).ok()
+}
+
+fn turns_by_drain(sack: &mut Sack<MemDisk>) -> Option<u64> {
+    sack.drain().ok()
+}
+
+fn rows(sack: &mut Sack<MemDisk>) -> Option<usize> {
+    let query = Query {
+        start: None,
+        stop: None,
+        kind: Some(Kind::Mean),
+        granularity: None,
+    };
+    match sack.answer(METRIC, &query) {
+        Ok(answer) => Some(answer.rows().len()),
+        Err(_) => None,
+    }
+}
+
+fn work(alloc: Global, sack: &mut Sack<MemDisk>) -> Option<Prepared> {
+    match claim(sack) {
+        Some(job) => prepare(alloc, job).ok(),
+        None => None,
+    }
+}
+
+// The metric and the last number of a claimed job, and the done number after its commit.
+fn turn(alloc: Global, sack: &mut Sack<MemDisk>) -> Option<(MetricId, u64, Option<u64>)> {
+    match work(alloc, sack) {
+        Some(prepared) => {
+            let metric = prepared.job().metric();
+            let upto = prepared.job().upto();
+            Some((metric, upto, commit(sack, prepared)))
+        }
+        None => None,
+    }
+}
+
+fn with_posts(alloc: Global, policy: &Policy, batch: &Batch) -> Option<Sack<MemDisk>> {
+    let mut sack = fresh(alloc)?;
+    create(&mut sack, policy);
+    create_other(&mut sack, policy);
+    post_other(&mut sack, batch);
+    post(&mut sack, batch);
+    post_other(&mut sack, batch);
+    Some(sack)
+}
+
+fn two_turns(
+    alloc: Global,
+    sack: Option<Sack<MemDisk>>,
+) -> Option<
+    (
+        Option<(MetricId, u64, Option<u64>)>,
+        Option<(MetricId, u64, Option<u64>)>,
+    ),
+> {
+    let mut sack = sack?;
+    Some((turn(alloc, &mut sack), turn(alloc, &mut sack)))
+}
+
+// The metric whose post has waited longest is claimed, with all its posts that wait.
+#[test]
+fn who_has_waited_longest_is_first(rt: HostRuntime) -> Result<(), Fail> {
+    let alloc = rt.alloc();
+    let policy = policy(alloc)?;
+    let batch = batch(alloc)?;
+    assert_eq!(rt;
+        two_turns(alloc, with_posts(alloc, &policy, &batch)),
+        Some((Some((OTHER, 3, Some(3))), Some((METRIC, 2, Some(2)))))
+    );
+    Ok(())
+}
+
+fn drops_claimed(alloc: Global, sack: Option<Sack<MemDisk>>) -> Option<(bool, bool)> {
+    let mut sack = sack?;
+    match work(alloc, &mut sack) {
+        Some(prepared) => Some((drop_other(&mut sack), is_stale(&mut sack, prepared))),
+        None => None,
+    }
+}
+
+// A drop of its metric ends a claim.
+#[test]
+fn a_drop_ends_a_claim(rt: HostRuntime) -> Result<(), Fail> {
+    let alloc = rt.alloc();
+    let policy = policy(alloc)?;
+    let batch = batch(alloc)?;
+    assert_eq!(rt;
+        drops_claimed(alloc, with_posts(alloc, &policy, &batch)),
+        Some((true, true))
+    );
+    Ok(())
+}
+
+fn refreshed(
+    sack: Option<Sack<MemDisk>>,
+) -> Option<(Option<usize>, Option<u64>, Option<usize>, Option<u64>, u64)> {
+    let mut sack = sack?;
+    Some((
+        rows(&mut sack),
+        done_by_refresh(&mut sack),
+        rows(&mut sack),
+        turns_by_drain(&mut sack),
+        sack.pending(),
+    ))
+}
+
+// A query sees what was processed, and no more; a drain leaves no post waiting.
+#[test]
+fn what_was_processed_is_answered(rt: HostRuntime) -> Result<(), Fail> {
+    let alloc = rt.alloc();
+    let policy = policy(alloc)?;
+    let batch = batch(alloc)?;
+    assert_eq!(rt;
+        refreshed(with_posts(alloc, &policy, &batch)),
+        Some((Some(0), Some(2), Some(1), Some(1), 0))
     );
     Ok(())
 }

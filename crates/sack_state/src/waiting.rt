@@ -9,7 +9,7 @@ use series_model::MetricId;
 
 impl<D: Disk> Books<D> {
     /// How many posts of a metric wait: none where it isn't live.
-    fn waiting_of(&self, metric: MetricId) -> u64
+    pub fn waiting_of(&self, metric: MetricId) -> u64
         ensures { result ≡ length (numbers_waiting self.now metric) }
     {
         match self.shelf.done_of(metric) {
