@@ -5,7 +5,6 @@ use Rattle.std.specs.Result.{IfErr}
 use Rattle.std.specs.Vec.{with_item}
 use Rattle.std.specs.declared.result.Result.{Result}
 use Rattle.std.proofs.lemmas.List.{length-set}
-use Rattle.std.proofs.lemmas.Option.{slice_get-get_or}
 use Rattle.gno_disk.specs.declared.disk.Disk.{Ghosts}
 use Rattle.series_model.specs.declared.metric.MetricId.{MetricId}
 use Rattle.sack_history.specs.declared.entry.Counted.{Counted}
@@ -19,13 +18,13 @@ use Rattle.sack_state.specs.SackCalls.{MatchOnDisk}
 use Rattle.sack_state.specs.SackView.{IsEarlier, OfBoth, SackView, StandsFor as SackStandsFor}
 use Rattle.front.specs.declared.solo.Solo.TheInside.{Inside}
 use Rattle.front.specs.Inside.{KeepsSolo, solo_view}
-use Rattle.front.specs.SoloView.{StandsForBooks}
+use Rattle.front.specs.SoloView.{StandsForBooks, as_many_books}
 use Rattle.front.proofs.Entered.{sack_leads}
-use Rattle.front.proofs.Told.{as_many_books, in_place_with, told_result, told_risen, told_same, told_sound}
+use Rattle.front.proofs.Told.{in_place_with, sack_there, told_result, told_risen, told_same, told_sound}
 
 module _ {D : Type 0} (g : Ghosts D) (i : Inside D) (keeps : KeepsSolo i) (k : ℕ) (v w : SackView D) (within : k < length i.sacks.items) (at : v ≡ get_or i.sacks.items k v) (same_place : w.place ≡ v.place) where
   there : slice_get i.sacks.items k ≡ Some v
-  there = slice_get-get_or i.sacks.items k v within ∙ ap Some (sym at)
+  there = sack_there i.sacks.items k v within at
 
   -- the front is kept
   pub keeps_with : KeepsSolo (record i { sacks = with_item i.sacks k w })

@@ -7,7 +7,9 @@ use Rattle.sack_history.specs.Calls.{IsDraining}
 use Rattle.sack_history.specs.declared.fault.SackFault.{SackFault}
 use Rattle.front_api.specs.FaultWords.{sack_words}
 use Rattle.front_api.specs.Front.{Drains, DrainsFrom, all, one, refused}
-use Rattle.front_api.specs.Seen.{EntersSack, SackBook, SeenBooks, capped}
+use Rattle.gno_disk.specs.declared.disk.Disk.{Ghosts}
+use Rattle.front_api.specs.Seen.{EntersSack, LeadsTo, SackBook, SeenBooks, capped}
+use Rattle.front.specs.SoloView.{SoloView, StandsForBooks, as_many_books}
 
 -- the book of this number stands behind so many, and another one takes its place
 split_at : (front rest : List SackBook) (book after : SackBook) → slice_get (front ++ rest) (length front) ≡ Some book
@@ -84,3 +86,33 @@ all_drained sack turns old new are as_many =
     none_left [] [] e = refl
     none_left [] (x ∷ rest) e = absurd (omega (arith, e))
     none_left (x ∷ front) rest e = none_left front rest (omega (arith, e))
+
+-- ---- what they lead to
+
+module _ {X : Type 0} (stands : X → SeenBooks → Type 0) where
+  pub drained_none : (a : X) → LeadsTo stands a a (AreDrained 0 0)
+  drained_none a old is = (old, is, none_drained old)
+
+  module _ (a b d : X) (sack turns : ℕ) (result : Result ℕ SackFault) (so_far : LeadsTo stands a b (AreDrained sack turns)) (call : LeadsTo stands b d (EntersSack sack sack_words IsDraining result)) where
+    pub drained_more : (more next total : ℕ) → result ≡ Ok more → next ≡ sack + 1 → total ≡ capped (turns + more) → LeadsTo stands a d (AreDrained next total)
+    drained_more more next total is next_is total_is old known =
+        let mid = so_far old known in
+        let new = call mid.0 mid.1 in
+        let one = one_drained sack turns more old mid.0 new.0 mid.2 (subst (λ (r : Result ℕ SackFault). EntersSack sack sack_words IsDraining r mid.0 new.0) is new.2) in
+        (new.0, new.1, subst (λ (n : ℕ). AreDrained n total old new.0) (sym next_is) (subst (λ (n : ℕ). AreDrained (sack + 1) n old new.0) (sym total_is) one))
+
+    pub drained_refused : (fault : SackFault) → result ≡ Err fault → LeadsTo stands a d (Drains (Err fault))
+    drained_refused fault is old known =
+        let mid = so_far old known in
+        let new = call mid.0 mid.1 in
+        (new.0, new.1, drain_refused sack turns fault old mid.0 new.0 mid.2 (subst (λ (r : Result ℕ SackFault). EntersSack sack sack_words IsDraining r mid.0 new.0) is new.2))
+
+module _ {D : Type 0} (g : Ghosts D) where
+  pub drained_all : (a b : SoloView D) (sack turns : ℕ) → LeadsTo (StandsForBooks g) a b (AreDrained sack turns) → length b.sacks ≡ sack → LeadsTo (StandsForBooks g) a b (Drains (Ok turns))
+  drained_all a b sack turns so_far as_many old known =
+      let new = so_far old known in
+      (new.0, new.1, all_drained sack turns old new.0 new.2 (as_many_books g 0 b.sacks new.0.sacks new.1.sacks ∙ as_many))
+
+  -- nothing but the sacks has changed, also after one call more
+  pub sacks_alone : (a b d : SoloView D) → b ≡ record a { sacks = b.sacks } → d ≡ record b { sacks = d.sacks } → d ≡ record a { sacks = d.sacks }
+  sacks_alone a b d first then = then ∙ ap (λ (x : SoloView D). record x { sacks = d.sacks }) first

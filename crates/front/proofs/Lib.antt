@@ -20,3 +20,4 @@ pub mod Stops
 pub mod Sums
 pub mod Told
 pub mod Unwritten
+pub mod Working

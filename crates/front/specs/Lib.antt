@@ -8,3 +8,4 @@ pub mod Opening
 pub mod Plan
 pub mod SoloView
 pub mod StoreFaults
+pub mod Working

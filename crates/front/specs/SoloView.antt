@@ -1,5 +1,6 @@
 -- What contracts see of a front of one thread, and the histories that it stands for.
-use Rattle.std.specs.Prelude.{◌≡◌, ℕ, ◌+◌, ◌&&◌, Bool, true, false, if◌then◌else◌, List, [], ◌∷◌, ◌++◌, replicate, Option, None, Some, IsSome, is_some, ⊤}
+use Rattle.std.specs.Prelude.{◌≡◌, ℕ, ◌+◌, ◌&&◌, Bool, true, false, if◌then◌else◌, List, [], ◌∷◌, ◌++◌, length, replicate, Option, None, Some, IsSome, is_some, ⊤}
+use Rattle.std.proofs.Common.{ap, refl, suc}
 use Rattle.gno_disk.specs.declared.disk.Disk.{Ghosts}
 use Rattle.log_pair.specs.declared.place.Place.{Place}
 use Rattle.front_api.specs.Bench.{Duty}
@@ -90,3 +91,10 @@ AreSackBooks g sack (v ∷ sacks) (book ∷ books) = IsSackBook g sack v book ×
 pub record StandsForBooks {D : Type 0} (g : Ghosts D) (v : SoloView D) (books : SeenBooks) : Type 0 where
   pub index : IsIndexBook g v.opened v.index books.index
   pub sacks : AreSackBooks g 0 v.sacks books.sacks
+
+-- there is a book of each sack
+pub as_many_books : {D : Type 0} (g : Ghosts D) (k : ℕ) (sacks : List (SackView D)) (books : List SackBook) → AreSackBooks g k sacks books → length books ≡ length sacks
+as_many_books g k [] [] are = refl
+as_many_books g k [] (b ∷ books) are = absurd are
+as_many_books g k (v ∷ sacks) [] are = absurd are
+as_many_books g k (v ∷ sacks) (b ∷ books) are = ap suc (as_many_books g (k + 1) sacks books are.1)

@@ -4,14 +4,21 @@ use Rattle.gno_num.specs.declared.faults.Damaged.{Damaged as Damage}
 use Rattle.gno_num.specs.declared.faults.DiskFault.{DiskFault as Fault}
 use Rattle.gate_log.specs.declared.fault.MountFault.{MountFault}
 use Rattle.gate_log.specs.declared.fault.MountFault.TheVariants as mount_fault
+use Rattle.sack_history.specs.declared.fault.AnswerFault.{AnswerFault}
+use Rattle.sack_history.specs.declared.fault.AnswerFault.TheVariants as answer_fault
+use Rattle.sack_history.specs.declared.fault.CommitFault.{CommitFault}
+use Rattle.sack_history.specs.declared.fault.CommitFault.TheVariants as commit_fault
 use Rattle.sack_history.specs.declared.fault.CreateFault.{CreateFault}
 use Rattle.sack_history.specs.declared.fault.CreateFault.TheVariants as create_fault
 use Rattle.sack_history.specs.declared.fault.ReleaseFault.{ReleaseFault}
 use Rattle.sack_history.specs.declared.fault.ReleaseFault.TheVariants as release_fault
 use Rattle.sack_history.specs.declared.fault.SackFault.{SackFault}
 use Rattle.sack_history.specs.declared.fault.SackFault.TheVariants as sack_fault
+use Rattle.front_api.specs.declared.bench.BenchFault.{BenchFault}
+use Rattle.front_api.specs.declared.bench.BenchFault.TheVariants as bench_fault
 use Rattle.front_api.specs.declared.bench.FreeFault.{FreeFault}
 use Rattle.front_api.specs.declared.bench.FreeFault.TheVariants as free_fault
+use Rattle.front.specs.declared.bench.Starved.{Starved}
 use Rattle.front.specs.declared.fault.StoreFault.{StoreFault}
 use Rattle.front.specs.declared.fault.StoreFault.TheVariants as store_fault
 
@@ -28,6 +35,19 @@ told_of_sack sack fault = fault
 abbrev pub told_of_creating : ℕ → CreateFault → CreateFault
 told_of_creating sack (create_fault.Damaged d) = create_fault.Damaged (in_store sack d)
 told_of_creating sack fault = fault
+
+-- the same where a query is answered
+abbrev pub told_of_answering : ℕ → AnswerFault → AnswerFault
+told_of_answering sack (answer_fault.Damaged d) = answer_fault.Damaged (in_store sack d)
+told_of_answering sack fault = fault
+
+-- the same where prepared work isn't committed; for the work that a sack hands back stands its ticket
+abbrev pub told_of_committing : ℕ → CommitFault → BenchFault Starved
+told_of_committing sack (commit_fault.NotHolder given holder) = bench_fault.Stale given holder
+told_of_committing sack (commit_fault.Differs p) = bench_fault.Differs (record { ticket = p.job.ticket })
+told_of_committing sack (commit_fault.DiskFault f) = bench_fault.DiskFault f
+told_of_committing sack (commit_fault.Damaged d) = bench_fault.Damaged (in_store sack d)
+told_of_committing sack (commit_fault.Memory p) = bench_fault.Memory (record { ticket = p.job.ticket })
 
 -- the same where a claim is given back
 abbrev pub told_of_releasing : ReleaseFault → FreeFault

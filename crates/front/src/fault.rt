@@ -2,12 +2,13 @@
 ghost use Rattle.std.specs.Prelude.{◌≡◌};
 ghost use Rattle.gate_log.specs.LogView.{MatchFault, MatchMountFault};
 ghost use Rattle.gate_log.specs.declared.fault.LogFault.{LogFault as LogFaultView};
-ghost use Rattle.front.specs.StoreFaults.{in_store, told_in_store, told_of_creating, told_of_releasing, told_of_sack};
+ghost use Rattle.front.specs.StoreFaults.{in_store, told_in_store, told_of_answering, told_of_committing, told_of_creating, told_of_releasing, told_of_sack};
 
-use front_api::FreeFault;
+use crate::bench::{Starved, starved_of};
+use front_api::{BenchFault, FreeFault};
 use gno_num::{Damaged, DiskFault};
 use log_pair::{LogFault, MountFault};
-use sack_history::{CreateFault, ReleaseFault, SackFault};
+use sack_history::{AnswerFault, CommitFault, CreateFault, ReleaseFault, SackFault};
 
 /// Why a store wasn't made or mounted.
 #[derive(Clone, Copy, Debug, PartialEq, Eq)]
@@ -98,6 +99,29 @@ pub fn told_of_creating(sack: u16, fault: CreateFault) -> CreateFault
     match fault {
         CreateFault::Damaged(damaged) => CreateFault::Damaged(in_store(sack, damaged)),
         other => other,
+    }
+}
+
+/// The same where a query is answered.
+pub fn told_of_answering(sack: u16, fault: AnswerFault) -> AnswerFault
+    ensures { result ≡ told_of_answering sack fault }
+{
+    match fault {
+        AnswerFault::Damaged(damaged) => AnswerFault::Damaged(in_store(sack, damaged)),
+        other => other,
+    }
+}
+
+/// The same where prepared work isn't committed. For the work that a sack hands back stands its ticket.
+pub fn told_of_committing(sack: u16, fault: CommitFault) -> BenchFault<Starved>
+    ensures { result ≡ told_of_committing sack fault }
+{
+    match fault {
+        CommitFault::NotHolder { given, holder } => BenchFault::Stale { given, holder },
+        CommitFault::Differs(prepared) => BenchFault::Differs(starved_of(prepared.job())),
+        CommitFault::DiskFault(fault) => BenchFault::DiskFault(fault),
+        CommitFault::Damaged(damaged) => BenchFault::Damaged(in_store(sack, damaged)),
+        CommitFault::Memory(prepared) => BenchFault::Memory(starved_of(prepared.job())),
     }
 }
 

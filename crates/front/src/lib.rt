@@ -7,6 +7,7 @@ mod calls;
 mod commands;
 mod counts;
 mod fault;
+mod front;
 mod histories;
 mod look;
 mod made;

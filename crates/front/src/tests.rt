@@ -1,11 +1,11 @@
 // The front of one thread, on disks in memory.
 use crate::{Counts, Solo, Starved, StoreFault};
 use archive_policy::{Kind, Name, Policy, Wanted};
-use front_api::{Command, ControlFault, FreeFault, Reply};
+use front_api::{Bench, Claimed, Command, ControlFault, FreeFault, Front, Reply};
 use gno_disk::MemDisk;
-use gno_num::Span;
+use gno_num::{Span, Stamp, Value};
 use sack_history::SackFault;
-use series_model::{Batch, MetricId, Ticket};
+use series_model::{Batch, Measure, MetricId, Query, Ticket};
 use std::alloc::Global;
 use std::test::Fail;
 
@@ -233,5 +233,73 @@ fn metrics_come_and_go(rt: HostRuntime) -> Result<(), Fail> {
     assert!(rt; dropped(alloc, &mut solo, first) && !dropped(alloc, &mut solo, first));
     assert_eq!(rt; solo.counts(), counts(1, 0));
     assert!(rt; is_free(&mut solo, 1));
+    Ok(())
+}
+
+// Posts a measure of so many seconds and of 1.
+fn measured(
+    alloc: Global,
+    solo: &mut Solo<MemDisk>,
+    metric: MetricId,
+    secs: u32,
+) -> Result<bool, Fail> {
+    let measure = Measure {
+        at: Stamp::of_nanos(u64::from(secs) * 1_000_000_000).ok_or("a stamp")?,
+        value: Value::of_units(1_000_000).ok_or("a value")?,
+    };
+    let Ok(batch) = Batch::make(vec![in alloc; measure]?) else {
+        return Err(Fail::from("batch"));
+    };
+    Ok(solo.post(alloc, metric, &batch).is_ok())
+}
+
+// Claims, prepares and commits work on a sack, and gives the done number.
+fn worked(alloc: Global, solo: &mut Solo<MemDisk>, sack: u16) -> Result<u64, Fail> {
+    if solo.sacks() <= sack {
+        return Err(Fail::from("no such sack"));
+    }
+    let Ok(Claimed::Job(job)) = solo.claim(alloc, sack) else {
+        return Err(Fail::from("claim"));
+    };
+    let Ok(prepared) = Solo::<MemDisk>::prepare(alloc, job) else {
+        return Err(Fail::from("prepare"));
+    };
+    match solo.commit(alloc, prepared) {
+        Ok(done) => Ok(done),
+        Err(_) => Err(Fail::from("commit")),
+    }
+}
+
+// How many rows a metric has.
+fn rows(alloc: Global, solo: &mut Solo<MemDisk>, metric: MetricId) -> Option<usize> {
+    let query = Query {
+        start: None,
+        stop: None,
+        kind: Some(Kind::Mean),
+        granularity: None,
+    };
+    match solo.answer(alloc, metric, &query) {
+        Ok(answer) => Some(answer.rows().len()),
+        Err(_) => None,
+    }
+}
+
+// What is posted is answered once a worker has committed it, or a refresh or a drain has processed it.
+#[test]
+fn posts_are_processed(rt: HostRuntime) -> Result<(), Fail> {
+    let alloc = rt.alloc();
+    let mut solo = with_policy(alloc)?;
+    let metric = added(alloc, &mut solo)?;
+    assert!(rt; measured(alloc, &mut solo, metric, 0)?);
+    assert_eq!(rt; rows(alloc, &mut solo, metric), Some(0));
+    assert_eq!(rt; worked(alloc, &mut solo, 1)?, 1);
+    assert_eq!(rt; rows(alloc, &mut solo, metric), Some(1));
+    assert!(rt; measured(alloc, &mut solo, metric, 60)?);
+    assert_eq!(rt; solo.refresh(alloc, metric), Ok(2));
+    assert_eq!(rt; rows(alloc, &mut solo, metric), Some(2));
+    assert!(rt; measured(alloc, &mut solo, metric, 120)?);
+    assert_eq!(rt; solo.drain(alloc), Ok(1));
+    assert_eq!(rt; rows(alloc, &mut solo, metric), Some(3));
+    assert_eq!(rt; solo.counts(), counts(1, 0));
     Ok(())
 }

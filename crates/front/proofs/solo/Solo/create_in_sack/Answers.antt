@@ -11,9 +11,9 @@ use Rattle.front_api.specs.FaultWords.{create_words}
 use Rattle.front_api.specs.Seen.{EntersSack, EntersSackOf, LeadsTo, sack_of}
 use Rattle.sack_state.specs.SackView.{Of}
 use Rattle.front.specs.Inside.{solo_view}
-use Rattle.front.specs.SoloView.{SoloView, StandsForBooks}
+use Rattle.front.specs.SoloView.{SoloView, StandsForBooks, as_many_books}
 use Rattle.front.proofs.Entered.{sack_leads}
-use Rattle.front.proofs.Told.{as_many_books, creating_risen, creating_same, creating_sound, in_place_with, is_within, told_creating}
+use Rattle.front.proofs.Told.{creating_risen, creating_same, creating_sound, in_place_with, is_within, told_creating}
 use Rattle.front.proofs.solo.Solo.create_in_sack.Goals as goal
 use Rattle.front.proofs.solo.Solo.create_in_sack.Goals.{in-Ok, in-Err}
 
