@@ -70,7 +70,7 @@ fn doc(alloc: Global, id: MetricId) -> Result<MetricDoc, Fail> {
 }
 
 fn add_policy(alloc: Global, index: &mut Index<MemDisk>, text: &str) -> Result<(), Fail> {
-    match index.apply(&Command::AddPolicy(policy(alloc, text)?)) {
+    match apply(index, &Command::AddPolicy(policy(alloc, text)?)) {
         Ok(_) => Ok(()),
         Err(_) => Err(Fail::from("a policy")),
     }
@@ -88,31 +88,54 @@ fn add_rule(
         pattern: name(alloc, pattern)?,
         policy: name(alloc, policy)?,
     };
-    match index.apply(&Command::AddRule(rule)) {
+    match apply(index, &Command::AddRule(rule)) {
         Ok(_) => Ok(()),
         Err(_) => Err(Fail::from("a rule")),
     }
 }
 
-fn is_done(reply: Result<Reply, ControlFault>) -> bool {
-    matches!(reply, Ok(Reply::Done))
+fn apply(index: &mut Index<MemDisk>, command: &Command) -> Result<Reply, ControlFault> {
+    index.apply(command)
+}
+
+// Whether a command is answered that it was done.
+fn is_done(index: &mut Index<MemDisk>, command: &Command) -> bool {
+    matches!(apply(index, command), Ok(Reply::Done))
+}
+
+// What a command is refused with.
+fn refused(index: &mut Index<MemDisk>, command: &Command) -> Option<ControlFault> {
+    apply(index, command).err()
+}
+
+// Whether a metric's document is added.
+fn add_metric(index: &mut Index<MemDisk>, doc: &MetricDoc) -> Result<bool, Fail> {
+    if doc.name.is_none() {
+        return Err(Fail::from("no name"));
+    }
+    Ok(index.add_metric(doc).is_ok())
+}
+
+// The index on the same disks.
+fn mounted_again(alloc: Global, index: Index<MemDisk>) -> Result<Index<MemDisk>, Fail> {
+    let (a, b) = index.into_disks();
+    mounted(alloc, a, b)
 }
 
 #[test]
 fn policies_are_kept(rt: HostRuntime) -> Result<(), Fail> {
     let alloc = rt.alloc();
     let mut index = fresh(alloc)?;
+    let wanted = Command::AddPolicy(policy(alloc, "p")?);
+    assert!(rt; matches!(apply(&mut index, &wanted), Ok(Reply::Policies(_))));
     assert!(rt;
         matches!(
-            index.apply(&Command::AddPolicy(policy(alloc, "p")?)),
-            Ok(Reply::Policies(_))
+            refused(&mut index, &wanted),
+            Some(ControlFault::PolicyExists)
         )
     );
-    let again = index.apply(&Command::AddPolicy(policy(alloc, "p")?));
-    assert!(rt; matches!(again, Err(ControlFault::PolicyExists)));
-    let (a, b) = index.into_disks();
-    let mut index = mounted(alloc, a, b)?;
-    assert!(rt; is_done(index.apply(&Command::DropPolicy(name(alloc, "p")?))));
+    let mut index = mounted_again(alloc, index)?;
+    assert!(rt; is_done(&mut index, &Command::DropPolicy(name(alloc, "p")?)));
     assert_eq!(rt; (index.entries(), index.starved()), (1, 0));
     Ok(())
 }
@@ -127,8 +150,7 @@ fn identifiers_are_new(rt: HostRuntime) -> Result<(), Fail> {
         return Err(Fail::from("begin"));
     };
     assert_eq!(rt; id, FIRST);
-    let (a, b) = index.into_disks();
-    let mut index = mounted(alloc, a, b)?;
+    let mut index = mounted_again(alloc, index)?;
     let Ok((id, _)) = begun(&mut index, Some(name(alloc, "p")?), None) else {
         return Err(Fail::from("begin again"));
     };
@@ -143,17 +165,13 @@ fn resources_in_use_stay(rt: HostRuntime) -> Result<(), Fail> {
     let alloc = rt.alloc();
     let mut index = fresh(alloc)?;
     add_policy(alloc, &mut index, "p")?;
-    assert!(rt; index.apply(&Command::AddResource(7)).is_ok());
+    assert!(rt; apply(&mut index, &Command::AddResource(7)).is_ok());
     assert!(rt; matches!(begun(&mut index, Some(name(alloc, "p")?), None), Ok(_)));
-    let doc = doc(alloc, FIRST)?;
-    if doc.name.is_none() {
-        return Err(Fail::from("no name"));
-    }
-    assert!(rt; index.add_metric(&doc).is_ok());
-    let in_use = index.apply(&Command::DropResource(7));
-    assert!(rt; matches!(in_use, Err(ControlFault::ResourceInUse)));
-    assert!(rt; is_done(index.apply(&Command::DropMetric(FIRST))));
-    assert!(rt; is_done(index.apply(&Command::DropResource(7))));
+    assert!(rt; add_metric(&mut index, &doc(alloc, FIRST)?)?);
+    let in_use = refused(&mut index, &Command::DropResource(7));
+    assert!(rt; matches!(in_use, Some(ControlFault::ResourceInUse)));
+    assert!(rt; is_done(&mut index, &Command::DropMetric(FIRST)));
+    assert!(rt; is_done(&mut index, &Command::DropResource(7)));
     Ok(())
 }
 
@@ -170,10 +188,10 @@ fn policies_in_use_stay(rt: HostRuntime) -> Result<(), Fail> {
         return Err(Fail::from("begin"));
     };
     assert!(rt; got.name().equals(&name(alloc, "p")?));
-    let in_use = index.apply(&Command::DropPolicy(name(alloc, "p")?));
-    assert!(rt; matches!(in_use, Err(ControlFault::PolicyInUse)));
-    assert!(rt; is_done(index.apply(&Command::DropRule(name(alloc, "b")?))));
-    assert!(rt; is_done(index.apply(&Command::DropPolicy(name(alloc, "p")?))));
+    let in_use = refused(&mut index, &Command::DropPolicy(name(alloc, "p")?));
+    assert!(rt; matches!(in_use, Some(ControlFault::PolicyInUse)));
+    assert!(rt; is_done(&mut index, &Command::DropRule(name(alloc, "b")?)));
+    assert!(rt; is_done(&mut index, &Command::DropPolicy(name(alloc, "p")?)));
     Ok(())
 }
 
@@ -188,11 +206,11 @@ fn a_failed_call_is_mended(rt: HostRuntime) -> Result<(), Fail> {
             continue;
         };
         let wanted = Command::AddPolicy(policy(alloc, "p")?);
-        let tried = index.apply(&wanted);
+        let tried = apply(&mut index, &wanted);
         assert!(rt; matches!(tried, Ok(_) | Err(ControlFault::DiskFault(_))));
         assert_eq!(rt; index.is_broken(), tried.is_err());
         failed = failed || tried.is_err();
-        let again = index.apply(&wanted);
+        let again = apply(&mut index, &wanted);
         assert!(rt; matches!(again, Ok(_) | Err(ControlFault::PolicyExists)));
         assert!(rt; !index.is_broken());
     }
@@ -207,11 +225,21 @@ fn a_broken_index_is_mounted_once_its_disk_works(rt: HostRuntime) -> Result<(), 
     let mut index = fresh(alloc)?;
     index.fuse(0, 0);
     let wanted = Command::AddPolicy(policy(alloc, "p")?);
-    assert!(rt; matches!(index.apply(&wanted), Err(ControlFault::DiskFault(_))));
-    assert!(rt; matches!(index.apply(&wanted), Err(ControlFault::DiskFault(_))));
+    assert!(rt;
+        matches!(
+            refused(&mut index, &wanted),
+            Some(ControlFault::DiskFault(_))
+        )
+    );
+    assert!(rt;
+        matches!(
+            refused(&mut index, &wanted),
+            Some(ControlFault::DiskFault(_))
+        )
+    );
     assert!(rt; index.is_broken());
     index.fuse(0, 100);
-    assert!(rt; index.apply(&wanted).is_ok());
+    assert!(rt; apply(&mut index, &wanted).is_ok());
     assert_eq!(rt; (index.is_broken(), index.entries()), (false, 4));
     Ok(())
 }
