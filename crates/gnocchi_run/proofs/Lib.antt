@@ -1,0 +1,5 @@
+pub mod Asked
+pub mod Causes
+pub mod Complete
+pub mod Starved
+pub mod TaskLemmas

@@ -1,0 +1,4 @@
+pub mod Doing
+pub mod Ending
+pub mod Opened
+pub mod Task
