@@ -21,6 +21,7 @@ use Rattle.front_api.specs.declared.history.IndexEntry.{IndexEntry}
 pub entered_goes_on : {O E : Type 0} (Says : List E → List E → Type 0) (old new : SeenBook O E) → Enters Says old new → BookGoesOn old new
 entered_goes_on Says old new e = record {
   origin = ap (λ b. b.origin) e.adds.new_is;
+  failed = ap (λ b. b.failed) e.adds.new_is;
   is_shared = ap (λ b. b.is_shared) e.adds.new_is;
   caller = ap (λ b. b.caller) e.adds.new_is;
   more = e.others ++ marked old.caller e.own;
@@ -28,11 +29,12 @@ entered_goes_on Says old new e = record {
 }
 
 pub stays : {O E : Type 0} (book : SeenBook O E) → BookGoesOn book book
-stays book = record { origin = refl; is_shared = refl; caller = refl; more = []; seen = sym (append-nil book.seen) }
+stays book = record { origin = refl; failed = refl; is_shared = refl; caller = refl; more = []; seen = sym (append-nil book.seen) }
 
 pub goes_further : {O E : Type 0} (old mid new : SeenBook O E) → BookGoesOn old mid → BookGoesOn mid new → BookGoesOn old new
 goes_further old mid new a b = record {
   origin = b.origin ∙ a.origin;
+  failed = b.failed ∙ a.failed;
   is_shared = b.is_shared ∙ a.is_shared;
   caller = b.caller ∙ a.caller;
   more = a.more ++ b.more;

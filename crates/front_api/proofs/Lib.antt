@@ -7,3 +7,5 @@ pub mod Entering
 pub mod GoingOn
 pub mod Acknowledged
 pub mod Turning
+pub mod Failing
+pub mod FailingIndex

@@ -18,11 +18,12 @@ use Rattle.front_api.specs.Maps.{Maps}
 
 -- ---- what is seen
 
--- What a caller has seen of one book: the plain state at the book's opening, where it is told, whether the book stands
--- behind a lock, the caller's number, and the entries since the opening that the caller has seen, each with the number
--- of the caller that made it.
+-- What a caller has seen of one book: the plain state at the book's opening, where it is told, how often its disks had
+-- failed then, whether the book stands behind a lock, the caller's number, and the entries since the opening that the
+-- caller has seen, each with the number of the caller that made it.
 pub record SeenBook (O E : Type 0) : Type 0 where
   pub origin : Option O
+  pub failed : ℕ
   pub is_shared : Bool
   pub caller : ℕ
   pub seen : List (ℕ × E)

@@ -1,11 +1,15 @@
 -- What the laws on seen histories speak of.
-use Rattle.std.specs.Prelude.{◌≡◌, ℕ, ◌+◌, Bool, true, false, List, filter, [], ◌∷◌, ◌++◌, length, Some, slice_get, ⊤}
+use Rattle.std.specs.Prelude.{◌≡◌, ℕ, ◌+◌, Bool, true, false, List, filter, [], ◌∷◌, ◌++◌, length, None, Some, Result, IfErr, slice_get, ⊤}
 use Rattle.series_model.specs.declared.metric.MetricId.{MetricId}
 use Rattle.sack_history.specs.declared.entry.Counted.{Counted}
 use Rattle.sack_history.specs.declared.entry.Counted.TheVariants as counted
 use Rattle.sack_history.specs.declared.entry.Entry.{Entry}
 use Rattle.sack_history.specs.declared.entry.Entry.TheVariants as entries
 use Rattle.sack_history.specs.Entries.{all_counted}
+use Rattle.front_api.specs.declared.history.IndexEntry.{IndexEntry}
+use Rattle.front_api.specs.declared.history.IndexEntry.TheVariants as index_entries
+use Rattle.front_api.specs.FaultWords.{FaultWords}
+use Rattle.front_api.specs.Maps.{Maps}
 use Rattle.front_api.specs.Seen.{OpensWith, SackBook, SeenBook, SeenBooks, entries_by, entries_in, sack_of}
 
 -- ---- what is seen later
@@ -13,6 +17,7 @@ use Rattle.front_api.specs.Seen.{OpensWith, SackBook, SeenBook, SeenBooks, entri
 -- the same caller has seen more of a book: what it had seen, and then other entries
 pub record BookGoesOn {O E : Type 0} (old new : SeenBook O E) : Type 0 where
   pub origin : new.origin ≡ old.origin
+  pub failed : new.failed ≡ old.failed
   pub is_shared : new.is_shared ≡ old.is_shared
   pub caller : new.caller ≡ old.caller
   pub more : List (ℕ × E)
@@ -84,3 +89,48 @@ turns_in (book ∷ books) = own_turns book + turns_in books
 abbrev pub WereOpened : List SackBook → Type 0
 WereOpened [] = ⊤
 WereOpened (book ∷ books) = ((counts : List Counted) × OpensWith book.origin counts) × WereOpened books
+
+-- ---- faults
+
+-- an entry of a sack is a fault, and one of the index
+abbrev pub is_fault : Entry → Bool
+is_fault (entries.Counted c) = false
+is_fault (entries.Claim ticket metric upto) = false
+is_fault (entries.Release ticket) = false
+is_fault (entries.Look metric) = false
+is_fault (entries.Fault tried before after) = true
+is_fault (entries.Reopened kept) = false
+
+abbrev pub is_index_fault : IndexEntry → Bool
+is_index_fault (index_entries.Counted c) = false
+is_index_fault index_entries.Look = false
+is_index_fault (index_entries.Fault tried before after) = true
+is_index_fault (index_entries.Reopened kept) = false
+
+-- no entry that was seen of a book is a fault
+abbrev pub SeesNoFault : {O E : Type 0} → (E → Bool) → SeenBook O E → Type 0
+SeesNoFault is_one book = filter is_one (entries_in book.seen) ≡ []
+
+-- the same of each of these sacks
+abbrev pub EachSeesNoFault : List SackBook → Type 0
+EachSeesNoFault [] = ⊤
+EachSeesNoFault (book ∷ books) = SeesNoFault is_fault book × EachSeesNoFault books
+
+-- the same of all books
+pub record SeeNoFault (books : SeenBooks) : Type 0 where
+  pub index : SeesNoFault is_index_fault books.index
+  pub sacks : EachSeesNoFault books.sacks
+
+-- all books were opened with a state that is told: the index with maps, each sack with the entries of a legal history
+pub record WereAllOpened (books : SeenBooks) : Type 0 where
+  pub first : Maps
+  pub index : books.index.origin ≡ Some first
+  pub sacks : WereOpened books.sacks
+
+-- it isn't answered that a disk failed, or that bytes were damaged
+pub record IsNoFault {F : Type 0} (words : FaultWords F) (fault : F) : Type 0 where
+  pub no_disk : words.disk_fault fault ≡ None
+  pub no_damage : words.is_damage fault ≡ false
+
+abbrev pub TellsNoFault : {T F : Type 0} → FaultWords F → Result T F → Type 0
+TellsNoFault words result = IfErr result (IsNoFault words)

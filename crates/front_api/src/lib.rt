@@ -27,5 +27,5 @@ pub use sack_history::{AnswerFault, SackFault};
 pub use seen::{Histories, sack_of};
 pub use seen_laws::{
     acknowledged_work_is_done, bench_histories_go_on, one_caller_sees_its_own,
-    own_entries_come_last, seen_histories_go_on, turns_are_done_entries,
+    own_entries_come_last, seen_histories_go_on, turns_are_done_entries, what_failed_is_seen,
 };

@@ -18,7 +18,8 @@ ghost use Rattle.sack_history.specs.Lives.{all_posts, done_of, pending_of, pendi
 ghost use Rattle.front_api.specs.Bench.{ClaimsWork, Commits, Releases};
 ghost use Rattle.front_api.specs.Front.{AnswersQuery, Controls, Drains, Posts, Refreshes};
 ghost use Rattle.front_api.specs.Seen.{IndexBook, SackBook, SeenBooks, SeesAndAdds, capped, entries_by, marked};
-ghost use Rattle.front_api.specs.SeenLaws.{BooksGoOn, EndsWith, OfEachHistory, OfMetricHistory, WereOpened, is_turn, turns_in};
+ghost use Rattle.front_api.specs.FaultWords.{answer_words, control_words, sack_words};
+ghost use Rattle.front_api.specs.SeenLaws.{BooksGoOn, EndsWith, OfEachHistory, OfMetricHistory, SeeNoFault, TellsNoFault, WereAllOpened, WereOpened, is_turn, turns_in};
 ghost use Rattle.front_api.specs.declared.bench.BenchFault.{BenchFault};
 ghost use Rattle.front_api.specs.declared.bench.Claimed.{Claimed};
 ghost use Rattle.front_api.specs.declared.bench.FreeFault.{FreeFault};
@@ -100,4 +101,21 @@ pub fn acknowledged_work_is_done()
         → OfMetricHistory metric (λ h. rows ≡ answer_rows metric query (kept h)) new }
     ensures drained { (turns : ℕ) (old new : SeenBooks)
         → Drains (Ok turns) old new → OfEachHistory (λ h. pending_posts (kept h) ≡ []) new.sacks }
+{}
+
+/// A call of a front answers that a disk failed, or that bytes were damaged, only where it adds a fault to a history. So
+/// where no fault is seen of any book behind the call, it answers neither; and where none is seen, none was.
+pub fn what_failed_is_seen()
+    ensures post { (metric : MetricId) (measures : List Measure) (result : Result ℕ SackFault) (old new : SeenBooks)
+        → WereAllOpened old → Posts metric measures result old new → SeeNoFault new → TellsNoFault sack_words result }
+    ensures refresh { (metric : MetricId) (result : Result ℕ SackFault) (old new : SeenBooks)
+        → WereAllOpened old → Refreshes metric result old new → SeeNoFault new → TellsNoFault sack_words result }
+    ensures answer { (metric : MetricId) (query : Query) (result : Result (List Row) AnswerFault) (old new : SeenBooks)
+        → WereAllOpened old → AnswersQuery metric query result old new → SeeNoFault new → TellsNoFault answer_words result }
+    ensures drain { (result : Result ℕ SackFault) (old new : SeenBooks)
+        → WereAllOpened old → Drains result old new → SeeNoFault new → TellsNoFault sack_words result }
+    ensures control { (command : Command) (result : Result Reply ControlFault) (old new : SeenBooks)
+        → WereAllOpened old → Controls command result old new → SeeNoFault new → TellsNoFault control_words result }
+    ensures earlier { (old new : SeenBooks) → BooksGoOn old new → SeeNoFault new → SeeNoFault old }
+    ensures later { (old new : SeenBooks) → BooksGoOn old new → WereAllOpened old → WereAllOpened new }
 {}
