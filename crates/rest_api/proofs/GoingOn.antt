@@ -75,7 +75,7 @@ of_metric : (id : Option MetricId) (Next : MetricId → Doing) → ((metric : Me
 of_metric None Next next answer old new h = same_goes_on old new h.0
 of_metric (Some metric) Next next answer old new h = next metric answer old new h
 
-finding : (resource : Option ℕ) (name : Option (List ℕ)) (result : Result MetricId Handled) (old new : SeenBooks) → FindsMetric resource name result old new → BooksGoOn old new
+pub finding : (resource : Option ℕ) (name : Option (List ℕ)) (result : Result MetricId Handled) (old new : SeenBooks) → FindsMetric resource name result old new → BooksGoOn old new
 finding _ _ _ old new (FindsMetric.there resource name reply metric _ _ h first) = controlling_goes_on (commands.FindMetric resource name) (Ok reply) old new h
 finding _ _ _ old new (FindsMetric.none_told resource name reply answer _ _ h first tells) = controlling_goes_on (commands.FindMetric resource name) (Ok reply) old new h
 finding _ _ _ old new (FindsMetric.refused resource name fault answer _ _ h tells) = controlling_goes_on (commands.FindMetric resource name) (Err fault) old new h
@@ -86,7 +86,7 @@ of_named : (resource : Option ℕ) (name : Option (List ℕ)) (Next : MetricId �
 of_named resource name Next next answer old new (OfNamed.found metric mid f h) = all_further old mid new (finding resource name (Ok metric) old mid f) (next metric answer mid new h)
 of_named resource name Next next answer old new (OfNamed.refused f) = finding resource name (Err answer) old new f
 
-posting_each : (entries : List BatchEntry) (old new : SeenBooks) → PostsEach entries old new → BooksGoOn old new
+pub posting_each : (entries : List BatchEntry) (old new : SeenBooks) → PostsEach entries old new → BooksGoOn old new
 posting_each _ old _ (PostsEach.none _) = all_stay old
 posting_each _ old new (PostsEach.one_more entries entry number _ mid _ first h) =
     all_further old mid new (posting_each entries old mid first) (sack_goes_on _ sack_words (IsPosting entry.0 entry.1) (Ok number) mid new h)
@@ -98,7 +98,7 @@ posting_all entries answer old new (PostsAll.refused front entry rest mid fault 
 
 -- ---- the metrics of a resource
 
-finding_resource : (stored id : Option ℕ) (result : Result ℕ Handled) (old new : SeenBooks) → FindsResource stored id result old new → BooksGoOn old new
+pub finding_resource : (stored id : Option ℕ) (result : Result ℕ Handled) (old new : SeenBooks) → FindsResource stored id result old new → BooksGoOn old new
 finding_resource stored _ _ old new (FindsResource.there resource reply _ _ h) = controlling_goes_on (commands.GetResource resource) (Ok reply) old new h
 finding_resource stored _ _ old new (FindsResource.refused resource fault answer _ _ h tells) = controlling_goes_on (commands.GetResource resource) (Err fault) old new h
 finding_resource stored _ _ old _ (FindsResource.broken answer _ tells) = all_stay old
@@ -111,7 +111,7 @@ with_resource stored id Next next answer old new (WithResource.refused f) = find
 listing : (resource : ℕ) → Keeps (ListsItsMetrics resource)
 listing resource answer old new h = controlling_goes_on commands.ListMetrics h.result old new h.controls
 
-adding_each : (resource : ℕ) (members : List NamedPolicy) (documents : _) (old new : SeenBooks) → AddsEach resource members documents old new → BooksGoOn old new
+pub adding_each : (resource : ℕ) (members : List NamedPolicy) (documents : _) (old new : SeenBooks) → AddsEach resource members documents old new → BooksGoOn old new
 adding_each resource _ _ old _ (AddsEach.none _) = all_stay old
 adding_each resource _ _ old new (AddsEach.one_more members member documents reply _ mid _ first h) =
     all_further old mid new (adding_each resource members documents old mid first) (controlling_goes_on (member_command resource member) (Ok reply) mid new h)

@@ -8,3 +8,5 @@ mod ListLemmas
 mod MembersLemmas
 mod NameOrder
 mod ConnectionLemmas
+mod Statuses
+mod Availing

@@ -6,3 +6,4 @@ pub mod Measures
 pub mod Handling
 pub mod Message
 pub mod Session
+pub mod Available

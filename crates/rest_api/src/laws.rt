@@ -1,14 +1,17 @@
 // What is true of requests and of connections. These do nothing when they run.
-ghost use Rattle.std.specs.Prelude.{◌≡◌, ◌==◌, ℕ, List, [], ◌∷◌, filter, Ok, Some};
+ghost use Rattle.std.specs.Prelude.{◌≡◌, ◌≢◌, ◌==◌, ℕ, List, [], ◌∷◌, filter, Ok, Option, Some};
 ghost use Rattle.front_api.specs.Seen.{SeenBooks};
-ghost use Rattle.front_api.specs.SeenLaws.{BooksGoOn, OfMetricHistory};
+ghost use Rattle.front_api.specs.SeenLaws.{BooksGoOn, OfMetricHistory, SeeNoFault, WereAllOpened};
 ghost use Rattle.measure_json.specs.Answer.{answer_json};
 ghost use Rattle.measure_json.specs.Measures.{measures_read};
 ghost use Rattle.measure_query.specs.Key.{pairs_of};
 ghost use Rattle.measure_query.specs.Query.{IsAsked};
 ghost use Rattle.measure_query.specs.declared.query.Asked.{Asked};
+ghost use Rattle.rest_api.specs.Available.{AreAvailable, BeginsAvailable};
 ghost use Rattle.rest_api.specs.Handling.{Handles};
 ghost use Rattle.rest_api.specs.Message.{Converses, Message};
+ghost use Rattle.rest_api.specs.Session.{Conversed};
+ghost use Rattle.rest_api.specs.declared.conn_end.ConnEnd.{ConnEnd};
 ghost use Rattle.rest_replies.specs.declared.handled.Handled.{Handled};
 ghost use Rattle.rest_replies.specs.declared.status.HttpStatus.{HttpStatus};
 ghost use Rattle.rest_routes.specs.Routes.{found, routing_of};
@@ -50,4 +53,14 @@ pub fn rows_are_from_scratch()
         → (asked : Asked) × (rows : List Row) × IsAsked (pairs_of query) asked
         × (answer.body.items ≡ answer_json asked.exact rows)
         × OfMetricHistory metric (λ h. rows ≡ answer_rows metric asked.query (kept h)) new }
+{}
+
+/// A request is answered 503 only where a disk failed in it, which is seen as a fault of a book. So where no fault is seen of
+/// any book, no request is answered so, and no message of a connection.
+pub fn without_faults_available()
+    ensures request { (method target body : List ℕ) (answer : Handled) (old new : SeenBooks)
+        → WereAllOpened old → SeeNoFault new → Handles method target body answer old new → answer.status ≢ HttpStatus.Unavailable }
+    ensures connection { (messages : List Message) (behind : List ℕ) (left : Option (List ℕ)) (end : ConnEnd) (answered last : List ℕ) (old new : SeenBooks)
+        → WereAllOpened old → SeeNoFault new → Conversed messages behind left end answered last old new
+        → AreAvailable messages answered × BeginsAvailable last }
 {}

@@ -16,4 +16,6 @@ mod tests;
 pub use conn_end::ConnEnd;
 pub use connection::serve_stream;
 pub use handling::{Api, handle};
-pub use laws::{accepted_batches_stand, requests_go_on, rows_are_from_scratch};
+pub use laws::{
+    accepted_batches_stand, requests_go_on, rows_are_from_scratch, without_faults_available,
+};
