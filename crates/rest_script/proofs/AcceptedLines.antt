@@ -1,5 +1,5 @@
 -- Lines that are answered 202, and what goes on behind lines.
-use Rattle.std.proofs.Common.{◌≡◌, ℕ, ◌^◌, ◌<◌, List, [], ◌∷◌, ◌++◌, length, Option, None, Some, Result, refl, sym, ap, subst, ◌∙◌, append_assoc, codes, lit<}
+use Rattle.std.proofs.Common.{◌≡◌, ℕ, ◌^◌, ◌<◌, List, [], ◌++◌, length, Option, Result, refl, sym, subst, ◌∙◌, append_assoc, codes, lit<}
 use Rattle.std.specs.Fmt.{decimal, digits}
 use Rattle.std.proofs.lemmas.Fmt.{decimal_injective}
 use Rattle.front_api.proofs.GoingOn.{all_further, all_stay}

@@ -4,3 +4,4 @@ mod ReplyLemmas
 mod ServingLemmas
 pub mod ScriptLaws
 mod AcceptedLines
+mod AvailableLines

@@ -1,9 +1,12 @@
 -- What scripts keep, in the words of the subject.
-use Rattle.std.specs.Prelude.{◌≡◌, ◌==◌, ℕ, List, [], ◌∷◌, ◌++◌, Option, Some, Ok, filter, codes}
+use Rattle.std.specs.Prelude.{◌≡◌, ◌≢◌, ◌==◌, ℕ, List, [], ◌∷◌, ◌++◌, Option, Some, Ok, filter}
 use Rattle.front_api.specs.Seen.{LeadsTo, SeenBooks}
 use Rattle.front_api.specs.SeenLaws.{OfMetricHistory}
 use Rattle.measure_json.specs.Measures.{measures_read}
+use Rattle.rest_replies.specs.ReplyLine.{reply_line_text}
 use Rattle.rest_replies.specs.Script.{LineMeaning, Means}
+use Rattle.rest_replies.specs.declared.status.HttpStatus.{HttpStatus}
+use Rattle.rest_replies.specs.declared.status.HttpStatus.TheVariants.{Unavailable}
 use Rattle.rest_routes.specs.Routes.{found, routing_of}
 use Rattle.rest_routes.specs.declared.method.Method.TheVariants.{Post}
 use Rattle.rest_routes.specs.declared.route.Route.TheVariants.{Measures}
@@ -38,3 +41,19 @@ pub record AreAnswered {F : Type 0} (stands : F → SeenBooks → Type 0) (old n
   pub lines_are : AreLines input lines
   pub written : Appends taken_before taken_after replies
   pub leads : LeadsTo stands old new (AnswersLines lines replies)
+
+-- a reply: none, or a line with another status than 503
+pub data IsAvailable : List ℕ → Type 0 where
+  none : IsAvailable []
+  line : (status : HttpStatus) (body : List ℕ) → status ≢ Unavailable → IsAvailable (reply_line_text status body)
+
+-- the lines were answered one after another, each with such a reply
+pub data AreAvailable : List (List ℕ) → List ℕ → Type 0 where
+  nothing : AreAvailable [] []
+  one_more : (lines : List (List ℕ)) (line text reply : List ℕ) → AreAvailable lines text → IsAvailable reply
+      → AreAvailable (lines ++ line ∷ []) (text ++ reply)
+
+-- such a reply, or the first bytes of it
+pub record BeginsAvailable (text : List ℕ) : Type 0 where
+  pub more : List ℕ
+  pub whole : IsAvailable (text ++ more)

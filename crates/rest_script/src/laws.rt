@@ -1,16 +1,16 @@
 // What is true of scripts. These do nothing when they run.
 ghost use Rattle.std.specs.Prelude.{◌≡◌, ◌≢◌, ◌<◌, ◌^◌, ◌⊎◌, ℕ, List, Option, Some, codes, length};
 ghost use Rattle.front_api.specs.Seen.{SeenBooks};
-ghost use Rattle.front_api.specs.SeenLaws.{BooksGoOn};
+ghost use Rattle.front_api.specs.SeenLaws.{BooksGoOn, SeeNoFault, WereAllOpened};
 ghost use Rattle.series_model.specs.declared.metric.MetricId.{MetricId};
 ghost use Rattle.rest_script.specs.declared.script_end.ScriptEnd.{ScriptEnd};
-ghost use Rattle.rest_script.specs.Laws.{AreAnswered, PostsLine, StandsOnce};
+ghost use Rattle.rest_script.specs.Laws.{AreAnswered, AreAvailable, BeginsAvailable, PostsLine, StandsOnce};
 ghost use Rattle.rest_script.specs.Lines.{AreLines, AreUnfinished};
 ghost use Rattle.rest_script.specs.Replying.{AnswersLines, Replies};
-ghost use Rattle.rest_script.specs.Serving.{ServesScript};
+ghost use Rattle.rest_script.specs.Serving.{ServesScript, Transcribes};
 
-use front_api::{Front, seen_histories_go_on};
-use rest_api::{accepted_batches_stand, requests_go_on};
+use front_api::{Front, seen_histories_go_on, what_failed_is_seen};
+use rest_api::{accepted_batches_stand, requests_go_on, without_faults_available};
 
 /// Bytes are lines in one way, and bytes that are lines aren't lines and a part of one.
 pub fn one_list_of_lines()
@@ -48,4 +48,17 @@ pub fn accepted_lines_stand()
         → PostsLine line metric body → Replies line (codes "202\n") old new → StandsOnce metric body new }
 {
     accepted_batches_stand();
+}
+
+/// Where no fault is seen of any book, no line is answered 503.
+pub fn without_faults_answered()
+    ensures { (lines : List (List ℕ)) (behind : List ℕ) (end : ScriptEnd) (answered last : List ℕ) (old new : SeenBooks)
+        → WereAllOpened old → SeeNoFault new → Transcribes lines behind end answered last old new
+        → AreAvailable lines answered × BeginsAvailable last }
+{
+    what_failed_is_seen();
+    without_faults_available();
+    lines_go_on();
+    seen_histories_go_on();
+    requests_go_on();
 }

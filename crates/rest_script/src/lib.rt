@@ -10,6 +10,9 @@ mod serving;
 mod tests;
 mod window;
 
-pub use laws::{accepted_lines_stand, lines_go_on, one_list_of_lines, whole_scripts_are_answered};
+pub use laws::{
+    accepted_lines_stand, lines_go_on, one_list_of_lines, whole_scripts_are_answered,
+    without_faults_answered,
+};
 pub use script_end::ScriptEnd;
 pub use serving::serve_script;
