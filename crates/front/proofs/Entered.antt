@@ -19,10 +19,11 @@ use Rattle.front_api.specs.declared.history.IndexEntry.{IndexEntry}
 use Rattle.front_api.proofs.Entering.{entries_in-marked}
 use Rattle.metric_index.specs.IndexView.{StandsFor as IndexStandsFor}
 use Rattle.sack_state.specs.declared.disks.Opening.{Opening}
-use Rattle.sack_state.specs.Disks.{AreTold}
+use Rattle.sack_state.specs.Disks.{AreTold, sack_faults}
 use Rattle.sack_state.specs.SackHolding.{HoldsSack}
 use Rattle.sack_state.specs.SackView.{IsEarlier, SackView, Stands, StandsFor as SackStandsFor, as_found, as_made}
-use Rattle.front.specs.SoloView.{AreSackBooks, IsSackBook, IsSackOrigin, SoloView, StandsForBooks, found, made, none_held, untold}
+use Rattle.front.specs.SoloView.{AreRealFaults, AreSackBooks, IsSackBook, IsSackOrigin, SoloView, StandsForBooks, found, index_faults, made, none_held, untold}
+use Rattle.front.proofs.RealFaults.{real_then}
 
 -- ---- a book
 
@@ -65,7 +66,8 @@ module _ {D : Type 0} (g : Ghosts D) where
 
   module _ {T : Type 0} (Call : Maps → List IndexEntry → List IndexEntry → Result T ControlFault → Type 0) (result : Result T ControlFault) (old new : SoloView D) (new_is : new ≡ record old { index = new.index })
       (stands : (first : Maps) (h : List IndexEntry) → IndexStandsFor g first h old.index → (own : List IndexEntry) × IndexStandsFor g first (h ++ own) new.index × Call first h own result)
-      (sound : (first : Maps) (h : List IndexEntry) → IndexStandsFor g first h old.index → TellsNoDamage control_words result) (risen : HasRisenIn control_words result) where
+      (sound : (first : Maps) (h : List IndexEntry) → IndexStandsFor g first h old.index → TellsNoDamage control_words result) (risen : HasRisenIn control_words result)
+      (real : (first : Maps) (h own : List IndexEntry) → IndexStandsFor g first h old.index → Call first h own result → AreRealFaults (index_faults g old.index) own (index_faults g new.index)) where
     -- where the origin is told, the call's own entries are those that the index tells
     index_told : (books : SeenBooks) (first : Maps) → StandsForBooks g old books → books.index.origin ≡ Some first
         → (later : SeenBooks) × StandsForBooks g new later × EntersIndex Call result books later
@@ -82,6 +84,9 @@ module _ {D : Type 0} (g : Ghosts D) where
               alone = is.index.alone;
               own = own_still book own is.index.own;
               origin = is.index.origin;
+              failed = is.index.failed;
+              real = λ other other_is. subst (λ (l : List IndexEntry). AreRealFaults book.failed l (index_faults g new.index)) (sym (entries_with book own))
+                  (real_then (entries_in book.seen) own book.failed (index_faults g old.index) (index_faults g new.index) (is.index.real first told) (real first h own known call.2));
               stands = λ other other_is. subst (λ (m : Maps). IndexStandsFor g m (entries_in after.seen) new.index) (some_is book.origin first other told other_is)
                   (subst (λ (l : List IndexEntry). IndexStandsFor g first l new.index) (sym (entries_with book own)) call.1);
             };
@@ -111,6 +116,8 @@ module _ {D : Type 0} (g : Ghosts D) where
               alone = is.index.alone;
               own = own_still book [] is.index.own;
               origin = is.index.origin;
+              failed = is.index.failed;
+              real = λ first told. absurd (no_some book.origin first none told);
               stands = λ first told. absurd (no_some book.origin first none told);
             };
             sacks = is.sacks;
@@ -225,6 +232,7 @@ module _ {D : Type 0} (g : Ghosts D) where
             own = own_still before own book.own;
             number = ap (λ p. p.sack) same_place ∙ book.number;
             origin = origin_still before.origin book.origin;
+            failed = book.failed ∙ ap (λ (o : Opening D). sack_faults g o.disks) (sym same_opening);
             stands = λ some. subst (λ (l : List Entry). SackStandsFor g l w) (sym (entries_with before own)) call.1;
           }),
           record {
@@ -257,6 +265,7 @@ module _ {D : Type 0} (g : Ghosts D) where
             own = own_still before [] book.own;
             number = ap (λ p. p.sack) same_place ∙ book.number;
             origin = origin_still before.origin book.origin;
+            failed = book.failed ∙ ap (λ (o : Opening D). sack_faults g o.disks) (sym same_opening);
             stands = λ some. absurd (no_some before.origin none some);
           }),
           record {

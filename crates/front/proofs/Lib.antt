@@ -21,3 +21,4 @@ pub mod Sums
 pub mod Told
 pub mod Unwritten
 pub mod Working
+pub mod RealFaults

@@ -15,7 +15,7 @@ use Rattle.front.specs.Looking.{HaveNoStore}
 use Rattle.front.specs.Making.{AreOpened, IsCreatedOn, IsMadeSack, IsMountedOn, IsMountedSack}
 use Rattle.front.specs.Opening.{OfIndexDisks, AreNewBooks, AreNewSackBooks, AreOpenedOn, IsNewIndexBook, IsNewSackBook, IsOpenedOn}
 use Rattle.front.specs.Plan.{StoreDisks, in_plan}
-use Rattle.front.specs.SoloView.{AreSackBooks, IsIndexBook, IsSackBook, IsSackOrigin, SoloView, StandsForBooks, do_tell, found, index_origin, made, none_held, untold}
+use Rattle.front.specs.SoloView.{AreRealFaults, AreSackBooks, IsIndexBook, IsSackBook, IsSackOrigin, SoloView, StandsForBooks, do_tell, found, index_faults, index_origin, made, none_held, untold}
 
 -- ---- what is seen of a new book
 
@@ -47,6 +47,7 @@ module _ {D : Type 0} (g : Ghosts D) (total : ℕ) where
     own = own_of_none book new.unseen;
     number = ap (λ p. p.sack) is.place;
     origin = new.origin;
+    failed = new.failed;
     stands = λ some. subst (λ l. SackStandsFor g l v) (none_in book new.unseen) (is.stands (tell new.origin some));
   }
     where
@@ -78,6 +79,7 @@ module _ {D : Type 0} (g : Ghosts D) (total : ℕ) where
     own = own_of_none book new.unseen;
     number = ap (λ p. p.sack) is.place;
     origin = new.origin;
+    failed = new.failed;
     stands = λ some. subst (λ l. SackStandsFor g l v) (none_in book new.unseen) is.stands;
   }
 
@@ -104,6 +106,8 @@ module _ {D : Type 0} (g : Ghosts D) (tells : (n : ℕ) (old new : D) → g.came
     alone = new.alone;
     own = own_of_none book new.unseen;
     origin = new.origin;
+    failed = new.failed;
+    real = λ other is. subst (λ l. AreRealFaults book.failed l (index_faults g v.index)) (none_in book new.unseen) (omega (arith, new.failed, ap (λ (i : IndexView D). index_faults g i) opened));
     stands = λ other is. stand other (both_tell (is_some (g.told first)) (is_some (g.told second)) v.index.maps other (as_cond other is));
   }
     where

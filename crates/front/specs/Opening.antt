@@ -6,26 +6,28 @@ use Rattle.front_api.specs.Seen.{IndexBook, SackBook, SeenBooks}
 use Rattle.metric_index.specs.IndexDamage.{HoldsNoIndex, IsDamagedIndex}
 use Rattle.gno_num.specs.declared.faults.Damaged.{Damaged as Damage}
 use Rattle.sack_state.specs.declared.disks.SackDisks.{SackDisks}
-use Rattle.sack_state.specs.Disks.{AreTold}
+use Rattle.sack_state.specs.Disks.{AreTold, sack_faults}
 use Rattle.sack_state.specs.SackHolding.{HoldsNoSack, IsDamagedSack}
 use Rattle.sack_state.specs.SackView.{SackView}
 use Rattle.front.specs.Plan.{StoreDisks, in_plan, sack_place}
-use Rattle.front.specs.SoloView.{IsSackOrigin, SoloView, index_origin}
+use Rattle.front.specs.SoloView.{IsSackOrigin, SoloView, index_faults, index_origin}
 use Rattle.front.specs.StoreFaults.{in_store}
 
 -- ---- what is seen at first
 
--- no entry is seen of the index, whose origin is that of its opening
+-- no entry is seen of the index, whose origin is that of its opening, as is how often its disks had failed
 pub record IsNewIndexBook {D : Type 0} (g : Ghosts D) (v : SoloView D) (book : IndexBook) : Type 0 where
   pub alone : book.is_shared ≡ false
   pub unseen : book.seen ≡ []
   pub origin : book.origin ≡ index_origin g v.opened
+  pub failed : book.failed ≡ index_faults g v.opened
 
 -- the same of a sack
 pub record IsNewSackBook {D : Type 0} (g : Ghosts D) (v : SackView D) (book : SackBook) : Type 0 where
   pub alone : book.is_shared ≡ false
   pub unseen : book.seen ≡ []
   pub origin : IsSackOrigin g v.place v.opening book.origin
+  pub failed : book.failed ≡ sack_faults g v.opening.disks
 
 -- and of each of these
 abbrev pub AreNewSackBooks : {D : Type 0} → Ghosts D → List (SackView D) → List SackBook → Type 0
@@ -34,7 +36,7 @@ AreNewSackBooks g [] (book ∷ books) = ⊥
 AreNewSackBooks g (v ∷ sacks) [] = ⊥
 AreNewSackBooks g (v ∷ sacks) (book ∷ books) = IsNewSackBook g v book × AreNewSackBooks g sacks books
 
--- no entry is seen of any book, and the origin of each is that of its opening
+-- no entry is seen of any book, and the origin of each is that of its opening, as is how often its disks had failed
 pub record AreNewBooks {D : Type 0} (g : Ghosts D) (v : SoloView D) (books : SeenBooks) : Type 0 where
   pub index : IsNewIndexBook g v books.index
   pub sacks : AreNewSackBooks g v.sacks books.sacks

@@ -1,16 +1,19 @@
 -- What contracts see of a front of one thread, and the histories that it stands for.
-use Rattle.std.specs.Prelude.{◌≡◌, ℕ, ◌+◌, ◌&&◌, Bool, true, false, if◌then◌else◌, List, [], ◌∷◌, ◌++◌, length, replicate, Option, None, Some, IsSome, is_some, ⊤}
+use Rattle.std.specs.Prelude.{◌≡◌, ℕ, ◌+◌, ◌≤◌, ◌&&◌, Bool, true, false, if◌then◌else◌, List, [], ◌∷◌, ◌++◌, length, replicate, Option, None, Some, IsSome, is_some, ⊤}
 use Rattle.std.proofs.Common.{ap, refl, suc}
 use Rattle.gno_disk.specs.declared.disk.Disk.{Ghosts}
 use Rattle.log_pair.specs.declared.place.Place.{Place}
 use Rattle.front_api.specs.Bench.{Duty}
 use Rattle.front_api.specs.Maps.{Maps}
-use Rattle.front_api.specs.Seen.{IndexBook, SackBook, SeenBooks, entries_in, marked}
+use Rattle.front_api.specs.Seen.{IndexBook, SackBook, SeenBooks, capped, entries_in, marked}
 use Rattle.front_api.specs.declared.duty.LastClaim.TheVariants as last_claim
-use Rattle.metric_index.specs.IndexView.{IndexView, StandsFor as IndexStandsFor}
+use Rattle.front_api.specs.declared.history.IndexEntry.{IndexEntry}
+use Rattle.front_api.specs.declared.history.IndexEntry.TheVariants as entries
+use Rattle.gno_num.specs.Faults.{Rose}
+use Rattle.metric_index.specs.IndexView.{IndexView, StandsFor as IndexStandsFor, sum_of_faults}
 use Rattle.sack_history.specs.Scratch.{Durable, durable}
 use Rattle.sack_state.specs.declared.disks.Opening.{Opening}
-use Rattle.sack_state.specs.Disks.{AreTold, TellAll}
+use Rattle.sack_state.specs.Disks.{AreTold, TellAll, sack_faults}
 use Rattle.sack_state.specs.SackHolding.{HoldsSack}
 use Rattle.sack_state.specs.SackView.{SackView, StandsFor as SackStandsFor}
 use Rattle.front.specs.declared.made.Made.{Made}
@@ -63,13 +66,29 @@ pub data IsSackOrigin {D : Type 0} (g : Ghosts D) (place : Place) (opening : Ope
 
 -- ---- histories
 
+-- how often the disks of an index have failed, at most 2^64 - 1
+abbrev pub index_faults : {D : Type 0} → Ghosts D → IndexView D → ℕ
+index_faults g v = capped (sum_of_faults g v.disks)
+
+-- The faults of an index's history are real: in each a disk failed, and the counts of faults rise from one to the next, and
+-- are between these two.
+abbrev pub AreRealFaults : ℕ → List IndexEntry → ℕ → Type 0
+AreRealFaults low [] now = low ≤ now
+AreRealFaults low (entries.Counted c ∷ h) now = AreRealFaults low h now
+AreRealFaults low (entries.Look ∷ h) now = AreRealFaults low h now
+AreRealFaults low (entries.Fault tried before after ∷ h) now = (low ≤ before) × Rose before after × AreRealFaults after h now
+AreRealFaults low (entries.Reopened kept ∷ h) now = AreRealFaults low h now
+
 -- The index stands for what is seen of it: it isn't shared, its entries are the caller's own, and its origin is that of
--- its opening. Where the origin is told, the index stands for the entries behind these maps.
+-- its opening, as is how often its disks had failed. Where the origin is told, the index stands for the entries behind
+-- these maps, and their faults are real.
 pub record IsIndexBook {D : Type 0} (g : Ghosts D) (opened now : IndexView D) (book : IndexBook) : Type 0 where
   pub alone : book.is_shared ≡ false
   pub own : book.seen ≡ marked book.caller (entries_in book.seen)
   pub origin : book.origin ≡ index_origin g opened
+  pub failed : book.failed ≡ index_faults g opened
   pub stands : (first : Maps) → book.origin ≡ Some first → IndexStandsFor g first (entries_in book.seen) now
+  pub real : (first : Maps) → book.origin ≡ Some first → AreRealFaults book.failed (entries_in book.seen) (index_faults g now)
 
 -- The same of the sack of this number. Where its origin is told, it stands for the entries behind each list of what
 -- counts that it may have been opened with.
@@ -78,6 +97,7 @@ pub record IsSackBook {D : Type 0} (g : Ghosts D) (sack : ℕ) (v : SackView D) 
   pub own : book.seen ≡ marked book.caller (entries_in book.seen)
   pub number : v.place.sack ≡ sack
   pub origin : IsSackOrigin g v.place v.opening book.origin
+  pub failed : book.failed ≡ sack_faults g v.opening.disks
   pub stands : IsSome book.origin → SackStandsFor g (entries_in book.seen) v
 
 -- the same of each of these sacks, the first having this number
