@@ -1,7 +1,7 @@
 -- Disks that are put back, sack by sack, in the opposite order.
 use Rattle.std.proofs.Common.{◌≡◌, ℕ, ◌+◌, ◌*◌, ◌≤◌, List, [], ◌∷◌, ◌++◌, reverse, length, Option, Some, None, refl, sym, ap, ◌∙◌, append-nil, append_assoc, arith, suc}
 use Rattle.std.specs.Option.{MatchOption}
-use Rattle.std.proofs.lemmas.List.{reverse-append, reverse-reverse}
+use Rattle.std.proofs.lemmas.List.{length-append, length-reverse, reverse-append, reverse-reverse}
 use Rattle.sack_state.specs.declared.disks.SackDisks.{SackDisks}
 use Rattle.sack_state.specs.SackView.{Of, SackState, SackView}
 use Rattle.front.specs.Plan.{five}
@@ -43,6 +43,15 @@ all_turned a b disks put with_b with_a back sacks put_is b_is a_is turned =
     turned ∙ ap (λ l. reverse l) a_is ∙ reverse-append with_b (a ∷ [])
     ∙ ap (λ l. a ∷ l) (ap (λ l. reverse l) b_is ∙ reverse-append put (b ∷ []))
     ∙ ap (λ l. a ∷ b ∷ l) (ap (λ l. reverse l) put_is ∙ reverse-append disks (reverse (disks_of_sacks sacks)) ∙ ap (λ l. l ++ reverse disks) (reverse-reverse (disks_of_sacks sacks)))
+
+-- how many they are
+pub all_counted : {D S : Type 0} (disks put with_b with_a back : List D) (a b : D) (sacks : List S) → length put ≡ length disks + 5 * length sacks → with_b ≡ put ++ b ∷ [] → with_a ≡ with_b ++ a ∷ [] → back ≡ reverse with_a
+    → length back ≡ length disks + 5 * length sacks + 2
+all_counted disks put with_b with_a back a b sacks count b_is a_is turned =
+    let one = ap (λ l. length l) turned ∙ length-reverse with_a in
+    let two = ap (λ l. length l) a_is ∙ length-append with_b (a ∷ []) in
+    let three = ap (λ l. length l) b_is ∙ length-append put (b ∷ []) in
+    omega (arith, one, two, three, count)
 
 -- the disks of a front, once none is left in the vector in which they came
 pub all_back : {D : Type 0} (back of_index emptied : List D) (a b : D) (sacks : List (SackView D)) → back ≡ a ∷ b ∷ (disks_of_sacks sacks ++ reverse emptied) → of_index ≡ a ∷ b ∷ [] → length emptied ≡ 0 → back ≡ of_index ++ disks_of_sacks sacks

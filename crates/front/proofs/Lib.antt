@@ -22,3 +22,5 @@ pub mod Told
 pub mod Unwritten
 pub mod Working
 pub mod RealFaults
+pub mod Unfailing
+pub mod Ready

@@ -1,5 +1,5 @@
 -- What a store stands for as it was opened.
-use Rattle.std.proofs.Common.{◌≡◌, ℕ, ◌+◌, ◌≤◌, ◌&&◌, Bool, true, false, cond, List, [], ◌∷◌, Option, Some, None, refl, sym, ap, subst, ◌∙◌, arith}
+use Rattle.std.proofs.Common.{◌≡◌, ℕ, ◌+◌, ◌≤◌, ◌&&◌, Bool, true, false, cond, List, [], ◌∷◌, length, Option, Some, None, refl, sym, ap, subst, ◌∙◌, arith}
 use Rattle.std.specs.Option.{IfSome, IsSome, is_some}
 use Rattle.gno_disk.specs.declared.disk.Disk.{Ghosts}
 use Rattle.front_api.specs.Maps.{Maps, new_maps}
@@ -124,7 +124,7 @@ module _ {D : Type 0} (g : Ghosts D) (tells : (n : ℕ) (old new : D) → g.came
 
   module _ (more : (m n : ℕ) (old new : D) → m ≤ n → g.came m old new → g.came n old new) (total number : ℕ) (old : StoreDisks D) (disks : List D) (are : disks ≡ in_plan old) (v : SoloView D) where
     pub created_opened : IsCreatedOn g total number old v → IsOpenedOn total true disks v × (v.index.maps ≡ Some (new_maps number))
-    created_opened is = (record { from = old; disks_are = are; index = is.books.opened; opened = made_are_opened g total 0 old.sacks v.sacks is.books.sacks }, is.books.index.maps)
+    created_opened is = (record { from = old; disks_are = are; index = is.books.opened; two = ap (λ (l : List D). length l) is.books.index.disks; opened = made_are_opened g total 0 old.sacks v.sacks is.books.sacks }, is.books.index.maps)
 
     pub created_stands : IsCreatedOn g total number old v → (books : SeenBooks) → AreNewBooks g v books → StandsForBooks g v books
     created_stands is books new = record {
@@ -137,7 +137,7 @@ module _ {D : Type 0} (g : Ghosts D) (tells : (n : ℕ) (old new : D) → g.came
     created_none is = subst (λ (l : List D). HaveNoStore g l) (sym are) (is.looked_a.free.had_none, is.looked_b.free.had_none)
 
     pub mounted_opened : IsMountedOn g total old v → IsOpenedOn total false disks v
-    mounted_opened is = record { from = old; disks_are = are; index = is.opened; opened = mounted_are_opened g total 0 old.sacks v.sacks is.sacks }
+    mounted_opened is = record { from = old; disks_are = are; index = is.opened; two = ap (λ (l : List D). length l) is.index.disks; opened = mounted_are_opened g total 0 old.sacks v.sacks is.sacks }
 
     pub mounted_stands : IsMountedOn g total old v → (books : SeenBooks) → AreNewBooks g v books → StandsForBooks g v books
     mounted_stands is books new = record {

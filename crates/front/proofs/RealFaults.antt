@@ -1,9 +1,8 @@
 -- The faults of an index's history, as its calls come to be.
-use Rattle.std.proofs.Common.{◌≡◌, ℕ, ◌≤◌, Bool, true, false, cond, List, [], ◌∷◌, ◌++◌, Option, None, Some, Result, Ok, Err, refl, sym, ap, subst, ◌∙◌, arith}
+use Rattle.std.proofs.Common.{◌≡◌, ℕ, ◌≤◌, Bool, true, false, cond, List, [], ◌∷◌, ◌++◌, Option, None, Some, Result, Ok, Err, sym, subst, arith}
 use Rattle.std.specs.Result.{IfErr}
 use Rattle.archive_policy.specs.Policies.{ArchivePolicy}
 use Rattle.gno_disk.specs.declared.disk.Disk.{Ghosts}
-use Rattle.gno_num.specs.Faults.{Rose}
 use Rattle.series_model.specs.declared.metric.MetricId.{MetricId}
 use Rattle.front_api.specs.Calls.{AddsTo, AppliesTo, BeginsOn, FailedMounting, IsAdded, IsApplied, IsCall, RefusedCall, damaged, disk, failed, mounted, named, spent, starved, unmounted, whole}
 use Rattle.front_api.specs.FaultWords.{control_words, is_control_damage}

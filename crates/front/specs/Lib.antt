@@ -9,3 +9,5 @@ pub mod Plan
 pub mod SoloView
 pub mod StoreFaults
 pub mod Working
+pub mod Failing
+pub mod Ready

@@ -51,11 +51,12 @@ AreOpenedOn total sack is_new (d ∷ disks) [] = ⊥
 AreOpenedOn total sack is_new (d ∷ disks) (v ∷ sacks) =
     (v.place ≡ sack_place total sack) × (v.opening ≡ record { disks = d; is_new = is_new }) × AreOpenedOn total (sack + 1) is_new disks sacks
 
--- the front was opened on these disks, which are those of the plan
+-- the front was opened on these disks, which are those of the plan, and its index has two
 pub record IsOpenedOn {D : Type 0} (sacks : ℕ) (is_new : Bool) (disks : List D) (v : SoloView D) : Type 0 where
   pub from : StoreDisks D
   pub disks_are : disks ≡ in_plan from
   pub index : v.opened ≡ v.index
+  pub two : length v.index.disks ≡ 2
   pub opened : AreOpenedOn sacks 0 is_new from.sacks v.sacks
 
 -- ---- what the disks of a store hold

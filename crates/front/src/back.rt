@@ -23,7 +23,8 @@ fn put_sacks<D: Disk>(disks: &mut Vec<D>, sacks: Vec<Sack<D>>)
 /// All disks, where these are left of them in the opposite order. It takes no memory.
 pub fn give_back<D: Disk>(disks: Vec<D>, a: D, b: D, sacks: Vec<Sack<D>>) -> Vec<D>
     requires { vec_len disks + 5 * vec_len sacks + 2 ≤ vec_capacity disks }
-    ensures { result.items ≡ a ∷ b ∷ disks_of_sacks sacks.items ++ reverse disks.items }
+    ensures all { result.items ≡ a ∷ b ∷ disks_of_sacks sacks.items ++ reverse disks.items }
+    ensures count { length result.items ≡ length disks.items + 5 * length sacks.items + 2 }
 {
     let mut disks = disks;
     put_sacks(&mut disks, sacks);

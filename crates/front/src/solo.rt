@@ -163,7 +163,8 @@ impl<D: Disk> Solo<D> {
 
     /// The disks, in the order of the plan.
     pub fn into_disks(self) -> Vec<D>
-        ensures { result.items ≡ disks_of_solo self }
+        ensures all { result.items ≡ disks_of_solo self }
+        ensures count { length result.items ≡ disk_count self.made.sacks }
     {
         let Solo {
             index,

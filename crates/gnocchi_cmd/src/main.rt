@@ -1,41 +1,59 @@
-//! The command of the store: reads its words, and answers script lines over a log on one disk.
+//! The command of the store: reads its words, and runs them over the disks of their plan.
 #![tactic(auto)]
 
-mod command;
-mod create;
-mod feed;
-mod line;
-mod number;
-mod replay;
-mod run;
-mod script;
-mod status;
-mod stop;
-mod store_file;
-#[cfg(test)]
-mod tests;
+mod folder;
 
-use crate::command::{Command, command_of};
-use crate::run::run;
-use crate::status::Status;
+use crate::folder::open_all;
+use command_line::{Plan, PlanFault, Status, disk_plan};
 use gno_disk::{Disk, MemDisk};
 use gno_io::{StdSink, StdSource};
-use std::alloc::Global;
+use gnocchi_run::run;
+use std::alloc::{AllocError, Global};
 use std::process::ExitCode;
 use std::{env, io};
 
-/// Runs the words over standard input and output and one disk.
-fn run_over<D: Disk + Drop>(rt: &HostRuntime, alloc: Global, words: &[String], disk: D) -> Status {
-    let mut disks = Vec::new(alloc);
-    if disks.push(disk).is_err() {
-        return Status::Memory;
+/// So many empty disks in memory.
+fn in_memory(alloc: Global, count: usize) -> Result<Vec<MemDisk>, AllocError> {
+    let mut disks = Vec::with_capacity(alloc, count)?;
+    for _ in 0..count {
+        let disk = MemDisk::new(alloc, Vec::new(alloc), Vec::new(alloc));
+        if disks.push(disk).is_err() {
+            return Err(AllocError);
+        }
     }
+    Ok(disks)
+}
+
+/// Runs the words over standard input and output and these disks.
+fn run_over<D: Disk + Drop>(
+    rt: &HostRuntime,
+    alloc: Global,
+    words: &[String],
+    disks: Vec<D>,
+) -> Status {
+    let mut disks = disks;
     let mut source = StdSource::new(rt.reader());
     let mut sink = StdSink::new(io::writer(rt));
     run(alloc, words, &mut source, &mut sink, &mut disks)
 }
 
-/// Runs the words over a disk in memory, or over the file of a store.
+/// Runs the words over the disks of their plan.
+fn run_on(rt: &HostRuntime, alloc: Global, words: &[String], plan: &Plan) -> Status {
+    if plan.memory {
+        match in_memory(alloc, plan.names.items().len()) {
+            Ok(disks) => run_over(rt, alloc, words, disks),
+            Err(_) => Status::Memory,
+        }
+    } else {
+        let is_new = words.first().is_some_and(|word| word.as_str() == "create");
+        match open_all(rt, alloc, plan.names.items(), is_new) {
+            Ok(disks) => run_over(rt, alloc, words, disks),
+            Err(_) => Status::Disk,
+        }
+    }
+}
+
+/// Does what the words of the command ask.
 fn start(rt: &HostRuntime) -> Status {
     let alloc = rt.alloc();
     let Ok(words) = env::args(rt) else {
@@ -44,26 +62,19 @@ fn start(rt: &HostRuntime) -> Status {
     let Ok(words) = words.skip(1).collect::<Vec<String>>(alloc) else {
         return Status::Memory;
     };
-    let opened = match command_of(&words) {
-        None => return Status::Usage,
-        Some(Command::Memory) => {
-            let disk = MemDisk::new(alloc, Vec::new(alloc), Vec::new(alloc));
-            return run_over(rt, alloc, &words, disk);
-        }
-        Some(Command::Create) => store_file::make(rt, alloc, &words[2]),
-        Some(Command::Replay) => store_file::open(rt, alloc, &words[2]),
-    };
-    match opened {
-        Ok(disk) => run_over(rt, alloc, &words, disk),
-        Err(_) => Status::Disk,
+    match disk_plan(alloc, &words) {
+        Ok(plan) => run_on(rt, alloc, &words, &plan),
+        Err(PlanFault::Usage) => Status::Usage,
+        Err(PlanFault::Memory) => Status::Memory,
     }
 }
 
 fn main(rt: HostRuntime) -> ExitCode {
     let status = start(&rt);
-    if status != Status::Done {
-        if let Ok(text) = status.text(rt.alloc()) {
-            let _ = eprintln!(rt; "gnocchi: {text}");
+    let mut line = Vec::new(rt.alloc());
+    if status.write_line(&mut line).is_ok() {
+        if let Ok(text) = String::from_utf8(line) {
+            let _ = eprint!(rt; "{text}");
         }
     }
     ExitCode::from(status.number())

@@ -18,7 +18,7 @@ returns-in-Err-clause-uncreated g c left is =
     let many = as_many_left left c.args.disks.items c.args.sacks is (sym c.args.disks.ok.0 ∙ c.requires.planned) in
     unmade_sack g.D.Disk c.args.sacks c.args.number c.args.a c.args.b left c.make_sacks.new.disks.items c.give_back.result.items c.make_sacks.new.opened.items c.in-Err.fault
     (some_opened Opened Unopened left c.make_sacks.new.disks.items c.args.room.sacks.items c.make_sacks.new.opened.items c.make_sacks.result c.requires.empty c.in-Err.fault c.in-Err.is (c.make_sacks.ensures.opens left is many))
-    c.give_back.ensures
+    c.give_back.ensures.all
 
 pub invariant_of-result : goal.invariant_of-result
 invariant_of-result g c =
@@ -61,4 +61,4 @@ returns-in-Err-create-clause-uncreated g c left is =
     let many = as_many_left left c.args.disks.items c.args.sacks is (sym c.args.disks.ok.0 ∙ c.requires.planned) in
     let opened = all_opened Opened Unopened left c.make_sacks.new.disks.items c.args.room.sacks.items c.make_sacks.new.opened.items c.make_sacks.result c.requires.empty c.in-Ok.is (c.make_sacks.ensures.opens left is many) in
     let e = c.in-Err-create in
-    unmade_index g.D.Disk c.args.sacks c.args.number c.args.a c.args.b left c.make_sacks.new.disks.items c.give_back-in-Err-create.result.items c.make_sacks.new.opened.items e.a e.b e.fault _ opened e.ensures.any_moment_err e.ensures.came_err e.ensures.cause c.give_back-in-Err-create.ensures
+    unmade_index g.D.Disk c.args.sacks c.args.number c.args.a c.args.b left c.make_sacks.new.disks.items c.give_back-in-Err-create.result.items c.make_sacks.new.opened.items e.a e.b e.fault _ opened e.ensures.any_moment_err e.ensures.came_err e.ensures.cause c.give_back-in-Err-create.ensures.all

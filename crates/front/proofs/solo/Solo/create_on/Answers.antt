@@ -7,7 +7,7 @@ returns-in-Ok-true-clause-uncreated g c old is =
     let e = c.look_for_store.ensures in
     let ok = c.in-Ok-true.ensures in
     exists_on g.D.Disk c.args.sacks c.args.number old c.take_disk-a.result c.take_disk-b.result c.look_for_store.new.a c.look_for_store.new.b c.take_disk-b.new.disks.items takes e.leaves e.came
-    c.give_back.result.items c.args.room.sacks.items c.requires.empty c.give_back.ensures (ok.untouched c.in-Ok-true.field-0-test) (ok.found c.in-Ok-true.field-0-test)
+    c.give_back.result.items c.args.room.sacks.items c.requires.empty c.give_back.ensures.all (ok.untouched c.in-Ok-true.field-0-test) (ok.found c.in-Ok-true.field-0-test)
 
 pub returns-in-Ok-false-clause-created : goal.returns-in-Ok-false-clause-created
 returns-in-Ok-false-clause-created g c =
@@ -30,4 +30,4 @@ returns-in-Err-clause-uncreated g c old is =
     let takes = takes_index old c.args.disks.items c.reverse.new.self.items c.take_disk-a.new.disks.items c.take_disk-b.new.disks.items c.take_disk-a.result c.take_disk-b.result is c.reverse.ensures.items c.take_disk-a.ensures.taken c.take_disk-b.ensures.taken in
     let e = c.look_for_store.ensures in
     unlooked_on g.D.Disk c.args.sacks c.args.number old c.take_disk-a.result c.take_disk-b.result c.look_for_store.new.a c.look_for_store.new.b c.take_disk-b.new.disks.items takes e.leaves e.came
-    c.give_back-in-Err.result.items c.args.room.sacks.items c.in-Err.fault c.requires.empty c.give_back-in-Err.ensures c.in-Err.ensures.cause
+    c.give_back-in-Err.result.items c.args.room.sacks.items c.in-Err.fault c.requires.empty c.give_back-in-Err.ensures.all c.in-Err.ensures.cause

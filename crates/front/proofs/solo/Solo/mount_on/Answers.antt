@@ -14,7 +14,7 @@ pub returns-in-Err-clause-unmounted : goal.returns-in-Err-clause-unmounted
 returns-in-Err-clause-unmounted g c old is =
     let takes = takes_index old c.args.disks.items c.reverse.new.self.items c.take_disk-a.new.disks.items c.take_disk-b.new.disks.items c.take_disk-a.result c.take_disk-b.result is c.reverse.ensures.items c.take_disk-a.ensures.taken c.take_disk-b.ensures.taken in
     let e = c.in-Err.ensures in
-    unmounted_index g.D.Disk c.args.sacks old c.take_disk-a.result c.take_disk-b.result c.take_disk-b.new.disks.items takes c.in-Err.a c.in-Err.b c.in-Err.fault c.give_back.result.items c.args.room.sacks.items c.requires.empty c.give_back.ensures
+    unmounted_index g.D.Disk c.args.sacks old c.take_disk-a.result c.take_disk-b.result c.take_disk-b.new.disks.items takes c.in-Err.a c.in-Err.b c.in-Err.fault c.give_back.result.items c.args.room.sacks.items c.requires.empty c.give_back.ensures.all
     (record { unwritten = e.unwritten_err; came_a = e.came_err.0; came_b = e.came_err.1; cause = e.cause; never = e.never_held })
 
 pub invariant_of-result : goal.invariant_of-result
@@ -63,4 +63,4 @@ returns-in-Err-mount_sacks-clause-unmounted g c old is =
     let e = c.in-Ok.ensures in
     let opened = some_opened Opened Unopened old.sacks c.mount_sacks.new.disks.items c.args.room.sacks.items c.mount_sacks.new.opened.items c.mount_sacks.result c.requires.empty (err.sack, err.fault) err.is (c.mount_sacks.ensures.opens old.sacks takes.rest_is many) in
     unmounted_sack g.D.Disk c.args.sacks old c.take_disk-a.result c.take_disk-b.result c.take_disk-b.new.disks.items takes c.in-Ok.index c.into_disks-a.result.0 c.into_disks-a.result.1 c.mount_sacks.new.disks.items c.give_back-in-Err-mount_sacks.result.items c.mount_sacks.new.opened.items err.sack err.fault c.told_in_store.result
-    (mounted_index g.D.Disk c.args.sacks c.take_disk-a.result c.take_disk-b.result c.in-Ok.index e.made.0 e.made.2 e.held e.exact e.stands e.unwritten e.came) c.into_disks-a.ensures opened c.give_back-in-Err-mount_sacks.ensures c.told_in_store.ensures
+    (mounted_index g.D.Disk c.args.sacks c.take_disk-a.result c.take_disk-b.result c.in-Ok.index e.made.0 e.made.2 e.held e.exact e.stands e.unwritten e.came) c.into_disks-a.ensures opened c.give_back-in-Err-mount_sacks.ensures.all c.told_in_store.ensures

@@ -1,9 +1,0 @@
-pub mod Feeding
-pub mod Line
-pub mod Measures
-pub mod Numbers
-pub mod Progress
-pub mod Script
-pub mod Session
-pub mod Status
-pub mod Words
