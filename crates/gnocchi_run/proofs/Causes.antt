@@ -25,12 +25,12 @@ use Rattle.gnocchi_run.specs.Opened.{IsUnfoundStore, IsUnmadeStore, OpensNoStore
 use Rattle.gnocchi_run.specs.Task.{sacks_of}
 
 -- the status tells nothing of the disks
-record IsQuiet (status : Status) : Type 0 where
-  disk : status ≢ Disk
-  damage : (disk at : ℕ) → status ≢ Damaged disk at
-  exists : status ≢ Exists
+pub record IsQuiet (status : Status) : Type 0 where
+  pub disk : status ≢ Disk
+  pub damage : (disk at : ℕ) → status ≢ Damaged disk at
+  pub exists : status ≢ Exists
 
-quiet_script : (end : ScriptEnd) (status : Status) → status ≡ status_of_script end → IsQuiet status
+pub quiet_script : (end : ScriptEnd) (status : Status) → status ≡ status_of_script end → IsQuiet status
 quiet_script scripts.Ended status is = record { disk = λ e. cc; damage = λ d a e. cc; exists = λ e. cc }
 quiet_script scripts.TooLong status is = record { disk = λ e. cc; damage = λ d a e. cc; exists = λ e. cc }
 quiet_script scripts.Cut status is = record { disk = λ e. cc; damage = λ d a e. cc; exists = λ e. cc }
@@ -39,7 +39,7 @@ quiet_script scripts.ReadFault status is = record { disk = λ e. cc; damage = λ
 quiet_script scripts.WriteFault status is = record { disk = λ e. cc; damage = λ d a e. cc; exists = λ e. cc }
 quiet_script scripts.Memory status is = record { disk = λ e. cc; damage = λ d a e. cc; exists = λ e. cc }
 
-quiet_connection : (end : ConnEnd) (status : Status) → status ≡ status_of_connection end → IsQuiet status
+pub quiet_connection : (end : ConnEnd) (status : Status) → status ≡ status_of_connection end → IsQuiet status
 quiet_connection connections.Ended status is = record { disk = λ e. cc; damage = λ d a e. cc; exists = λ e. cc }
 quiet_connection connections.Closed status is = record { disk = λ e. cc; damage = λ d a e. cc; exists = λ e. cc }
 quiet_connection connections.Refused status is = record { disk = λ e. cc; damage = λ d a e. cc; exists = λ e. cc }
@@ -49,11 +49,11 @@ quiet_connection connections.ReadFault status is = record { disk = λ e. cc; dam
 quiet_connection connections.WriteFault status is = record { disk = λ e. cc; damage = λ d a e. cc; exists = λ e. cc }
 quiet_connection connections.Memory status is = record { disk = λ e. cc; damage = λ d a e. cc; exists = λ e. cc }
 
-quiet_text : (text : List ℕ) (before after : Option (List ℕ)) (status : Status) → WritesText text before after status → IsQuiet status
+pub quiet_text : (text : List ℕ) (before after : Option (List ℕ)) (status : Status) → WritesText text before after status → IsQuiet status
 quiet_text text before after status (WritesText.whole is written) = record { disk = λ e. cc; damage = λ d a e. cc; exists = λ e. cc }
 quiet_text text before after status (WritesText.front first more is whole written) = record { disk = λ e. cc; damage = λ d a e. cc; exists = λ e. cc }
 
-quiet_counts : (sacks : ℕ) (counts : Counts) (before after : Option (List ℕ)) (status : Status) → TellsCounts sacks counts before after status → IsQuiet status
+pub quiet_counts : (sacks : ℕ) (counts : Counts) (before after : Option (List ℕ)) (status : Status) → TellsCounts sacks counts before after status → IsQuiet status
 quiet_counts sacks counts before after status (TellsCounts.told text) = quiet_text _ before after status text
 quiet_counts sacks counts before after status (TellsCounts.starved is written) = record { disk = λ e. cc; damage = λ d a e. cc; exists = λ e. cc }
 

@@ -1,3 +1,4 @@
+pub mod Available
 pub mod Doing
 pub mod Ending
 pub mod Opened

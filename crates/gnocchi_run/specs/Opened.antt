@@ -29,11 +29,13 @@ pub record IsMadeStore {D : Type 0} (g : Ghosts D) (sacks number : ℕ) (disks :
   pub maps : v.index.maps ≡ Some (new_maps number)
   pub stands : (books : SeenBooks) → AreNewBooks g v books → StandsForBooks g v books
   pub moments : OnPlan (IsMakingStore g sacks number) disks (disks_of_solo v)
+  pub came : OnPlan (StoreCame g 15 9 9 1) disks (disks_of_solo v)
 
 -- None was made: there was one, and nothing was written; or a disk failed; or there was no memory. Here too a stop leaves
 -- what was there, no store, or the empty one.
 pub record IsUnmadeStore {D : Type 0} (g : Ghosts D) (sacks number : ℕ) (fault : StoreFault) (old new : List D) : Type 0 where
   pub moments : OnPlan (IsMakingOrLooking g sacks number) old new
+  pub came : OnPlan (StoreCame g 15 9 9 1) old new
   pub cause : MatchStoreFault fault (HaveStore g old × OnPlan (IsOnlyRead g) old new) (IsFault (faults_of_disks g old) (faults_of_disks g new)) (λ d. ⊥) ⊤
 
 -- A store was found on these disks: it has the maps that the disks of the index hold, and it stands for no entries behind

@@ -23,6 +23,7 @@ pub(crate) fn check<K: Sink, D: Disk>(
     requires few { sacks ≤ 64 }
     requires planned { length disks.items ≡ disk_count sacks }
     ensures checks { ChecksStore D.Disk sacks disks.items result.0.items (K.taken sink.old) (K.taken sink.new) result.1 }
+    ensures kept { length result.0.items ≡ length disks.items }
     ensures used { result.1 ≢ Status.Usage }
     ensures unread { result.1 ≢ Status.Read }
     ensures write_cause { result.1 ≡ Status.Write → Rose (K.faults sink.old) (K.faults sink.new) }

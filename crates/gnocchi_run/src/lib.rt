@@ -4,6 +4,7 @@
 mod checking;
 mod creating;
 mod ending;
+mod laws;
 mod opening;
 mod replaying;
 mod task;

@@ -19,7 +19,9 @@ pub(crate) fn make<D: Disk>(
     requires few { sacks ≤ 64 }
     requires planned { length disks.items ≡ disk_count sacks }
     ensures made { IfOk result (IsMadeStore D.Disk sacks number disks.items) }
+    ensures sacks { IfOk result (λ solo. solo.made.sacks ≡ sacks) }
     ensures unmade { IfErr result (λ e. IsUnmadeStore D.Disk sacks number e.1 disks.items e.0.items) }
+    ensures kept { IfErr result (λ e. length e.0.items ≡ length disks.items) }
 {
     match Solo::create(alloc, disks, sacks, number) {
         Ok(solo) => Ok(solo),
@@ -37,7 +39,9 @@ pub(crate) fn find<D: Disk>(
     requires few { sacks ≤ 64 }
     requires planned { length disks.items ≡ disk_count sacks }
     ensures found { IfOk result (IsFoundStore D.Disk sacks disks.items) }
+    ensures sacks { IfOk result (λ solo. solo.made.sacks ≡ sacks) }
     ensures unfound { IfErr result (λ e. IsUnfoundStore D.Disk sacks e.1 disks.items e.0.items) }
+    ensures kept { IfErr result (λ e. length e.0.items ≡ length disks.items) }
 {
     match Solo::mount(alloc, disks, sacks) {
         Ok(solo) => Ok(solo),
@@ -56,7 +60,9 @@ pub(crate) fn open<D: Disk>(
     requires few { sacks ≤ 64 }
     requires planned { length disks.items ≡ disk_count sacks }
     ensures opened { IfOk result (OpensStore D.Disk start sacks disks.items) }
+    ensures sacks { IfOk result (λ solo. solo.made.sacks ≡ sacks) }
     ensures unopened { IfErr result (λ e. OpensNoStore D.Disk start sacks e.1 disks.items e.0.items) }
+    ensures kept { IfErr result (λ e. length e.0.items ≡ length disks.items) }
 {
     match start {
         Start::New { number } => match make(alloc, disks, sacks, number) {

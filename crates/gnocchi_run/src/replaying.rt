@@ -31,6 +31,7 @@ fn answer_script<F: Front, S: Source, K: Sink>(
         → IsUnfaulted result → IsOrStarved result Status.Done }
     ensures refused { (input : List ℕ) (lines : List (List ℕ)) → S.left source.old ≡ Some input → AreUnfinished input lines → length input < 2 ^ 40
         → IsUnfaulted result → IsOrStarved result Status.Input }
+    ensures same { F.made front.new ≡ F.made front.old }
     ensures used { result ≢ Status.Usage }
     ensures read_cause { result ≡ Status.Read → Rose (S.faults source.old) (S.faults source.new) }
     ensures write_cause { result ≡ Status.Write → Rose (K.faults sink.old) (K.faults sink.new) }
@@ -51,6 +52,7 @@ fn answer_connection<F: Front, S: Source, K: Sink>(
 ) -> Status
     ensures answers { AnswersConnection F.stands front.old front.new (S.left source.old) (S.left source.new)
         (K.taken sink.old) (K.taken sink.new) result }
+    ensures same { F.made front.new ≡ F.made front.old }
     ensures used { result ≢ Status.Usage }
     ensures read_cause { result ≡ Status.Read → Rose (S.faults source.old) (S.faults source.new) }
     ensures write_cause { result ≡ Status.Write → Rose (K.faults sink.old) (K.faults sink.new) }
@@ -79,6 +81,7 @@ pub(crate) fn replay<S: Source, K: Sink, D: Disk>(
         → IsUnfaulted result.1 → IsOrStarved result.1 Status.Done }
     ensures refused { (input : List ℕ) (lines : List (List ℕ)) → S.left source.old ≡ Some input → AreUnfinished input lines → length input < 2 ^ 40
         → IsUnfaulted result.1 → IsOrStarved result.1 Status.Input }
+    ensures kept { length result.0.items ≡ length disks.items }
     ensures used { result.1 ≢ Status.Usage }
     ensures read_cause { result.1 ≡ Status.Read → Rose (S.faults source.old) (S.faults source.new) }
     ensures write_cause { result.1 ≡ Status.Write → Rose (K.faults sink.old) (K.faults sink.new) }
@@ -107,6 +110,7 @@ pub(crate) fn replay_http<S: Source, K: Sink, D: Disk>(
     requires planned { length disks.items ≡ disk_count sacks }
     ensures runs { RunsOver D.Disk start sacks (AnswersConnection (StandsForBooks D.Disk)) disks.items result.0.items
         (S.left source.old) (S.left source.new) (K.taken sink.old) (K.taken sink.new) result.1 }
+    ensures kept { length result.0.items ≡ length disks.items }
     ensures used { result.1 ≢ Status.Usage }
     ensures read_cause { result.1 ≡ Status.Read → Rose (S.faults source.old) (S.faults source.new) }
     ensures write_cause { result.1 ≡ Status.Write → Rose (K.faults sink.old) (K.faults sink.new) }

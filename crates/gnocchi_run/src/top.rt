@@ -7,6 +7,7 @@ ghost use Rattle.front.specs.Opening.{AreDamaged};
 ghost use Rattle.front.specs.Looking.{HaveStore};
 ghost use Rattle.front.specs.Plan.{disk_count};
 ghost use Rattle.rest_script.specs.Lines.{AreLines, AreUnfinished};
+ghost use Rattle.gnocchi_run.specs.Available.{AnswersLinesAvailable, AnswersMessagesAvailable, AreReady, AreReadyFor, IsUnrisen, NoneFailed};
 ghost use Rattle.gnocchi_run.specs.Ending.{IsOrStarved, IsUnfaulted};
 ghost use Rattle.gnocchi_run.specs.declared.task.Start.{Start as A_Start};
 ghost use Rattle.gnocchi_run.specs.Doing.{DoesNothing, Performs};
@@ -16,9 +17,11 @@ ghost use Rattle.gnocchi_run.specs.declared.task.Task.{Task as A_Task};
 
 use crate::checking::check;
 use crate::creating::create;
+use crate::laws::working_disks_answer;
 use crate::replaying::{replay, replay_http};
 use crate::task::{Task, task_in};
 use command_line::{PlanFault, Status};
+use front::stores_are_not_damaged;
 use gno_disk::Disk;
 use gno_io::{Sink, Source};
 use std::alloc::Global;
@@ -51,6 +54,19 @@ pub fn run<S: Source, K: Sink, D: Disk + Drop>(
     ensures refused { (start : A_Start) (sacks : ℕ) (input : List ℕ) (lines : List (List ℕ)) → IsTask (texts words.now) (length disks.old.items) (Task.Replay start sacks) → S.left source.old ≡ Some input → AreUnfinished input lines → length input < 2 ^ 40
         → IsUnfaulted result → IsOrStarved result Status.Input }
 
+    // Over disks that are ready, where no count of faults rises, no fault is told.
+    ensures unfaulted { (task : A_Task) → IsTask (texts words.now) (length disks.old.items) task → AreReadyFor D.Disk task disks.old.items
+        → NoneFailed D.Disk disks.old.items disks.new.items → IsUnrisen (S.faults source.old) (S.faults source.new) → IsUnrisen (K.faults sink.old) (K.faults sink.new)
+        → IsUnfaulted result }
+
+    // Over disks that are ready, and of which none fails, no line and no message is answered 503.
+    ensures available { (start : A_Start) (sacks : ℕ) → IsTask (texts words.now) (length disks.old.items) (Task.Replay start sacks)
+        → AreReady D.Disk start sacks disks.old.items → NoneFailed D.Disk disks.old.items disks.new.items
+        → AnswersLinesAvailable (S.left source.old) (S.left source.new) (K.taken sink.old) (K.taken sink.new) }
+    ensures available_http { (start : A_Start) (sacks : ℕ) → IsTask (texts words.now) (length disks.old.items) (Task.ReplayHttp start sacks)
+        → AreReady D.Disk start sacks disks.old.items → NoneFailed D.Disk disks.old.items disks.new.items
+        → AnswersMessagesAvailable (S.left source.old) (S.left source.new) (K.taken sink.old) (K.taken sink.new) }
+
     // A fault comes only where the count of its object rose in this call.
     ensures read_cause { result ≡ Status.Read → Rose (S.faults source.old) (S.faults source.new) }
     ensures write_cause { result ≡ Status.Write → Rose (K.faults sink.old) (K.faults sink.new) }
@@ -60,7 +76,12 @@ pub fn run<S: Source, K: Sink, D: Disk + Drop>(
     ensures damage_cause { (task : A_Task) (disk at : ℕ) → IsTask (texts words.now) (length disks.old.items) task
         → result ≡ Status.Damaged disk at → AreDamaged D.Disk (sacks_of task) disks.old.items (record { disk = disk; at = at }) }
     ensures exists_cause { result ≡ Status.Exists → HaveStore D.Disk disks.old.items }
+
+    // All disks are given back.
+    ensures disks { length disks.new.items ≡ length disks.old.items }
 {
+    working_disks_answer::<D>();
+    stores_are_not_damaged::<D>();
     let task = match task_in(alloc, words) {
         Ok(task) => task,
         Err(PlanFault::Usage) => return Status::Usage,
@@ -91,6 +112,7 @@ fn perform<S: Source, K: Sink, D: Disk>(
         → IsUnfaulted result.1 → IsOrStarved result.1 Status.Done }
     ensures refused { (start : A_Start) (sacks : ℕ) (input : List ℕ) (lines : List (List ℕ)) → task ≡ Task.Replay start sacks → S.left source.old ≡ Some input → AreUnfinished input lines → length input < 2 ^ 40
         → IsUnfaulted result.1 → IsOrStarved result.1 Status.Input }
+    ensures kept { length result.0.items ≡ length disks.items }
     ensures used { result.1 ≢ Status.Usage }
     ensures read_cause { result.1 ≡ Status.Read → Rose (S.faults source.old) (S.faults source.new) }
     ensures write_cause { result.1 ≡ Status.Write → Rose (K.faults sink.old) (K.faults sink.new) }

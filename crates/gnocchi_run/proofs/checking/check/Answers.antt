@@ -4,7 +4,7 @@ use Rattle.gnocchi_run.proofs.checking.check.Goals as goal
 
 pub returns-in-Ok-clause-checks : goal.returns-in-Ok-clause-checks
 returns-in-Ok-clause-checks g c =
-    ChecksStore.counted c.in-Ok.solo c.counts.result c.in-Ok.ensures.found c.into_disks.ensures
+    ChecksStore.counted c.in-Ok.solo c.counts.result c.in-Ok.ensures.found c.into_disks.ensures.all
     (λ books lists new are. c.counts.ensures books lists (c.in-Ok.ensures.found.stands books new) are)
     c.tell_counts-status.ensures.tells
 

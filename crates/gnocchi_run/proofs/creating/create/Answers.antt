@@ -3,7 +3,7 @@ use Rattle.gnocchi_run.specs.Doing.{CreatesStore}
 use Rattle.gnocchi_run.proofs.creating.create.Goals as goal
 
 pub returns-in-Ok-clause-creates : goal.returns-in-Ok-clause-creates
-returns-in-Ok-clause-creates g c = CreatesStore.made c.in-Ok.solo c.in-Ok.ensures.made c.into_disks.ensures c.tell.ensures.tells
+returns-in-Ok-clause-creates g c = CreatesStore.made c.in-Ok.solo c.in-Ok.ensures.made c.into_disks.ensures.all c.tell.ensures.tells
 
 pub returns-in-Err-clause-creates : goal.returns-in-Err-clause-creates
 returns-in-Err-clause-creates g c =

@@ -2,11 +2,13 @@ use Rattle.std.proofs.Common.{◌≡◌, ◌+◌, ◌*◌, ◌∙◌, Vec, Globa
 use Rattle.std.proofs.KnownBytes.{Appends-nil, Keeps-refl}
 use Rattle.front.specs.Opening.{AreDamaged}
 use Rattle.gnocchi_run.proofs.Asked.{performed}
+use Rattle.gnocchi_run.proofs.Available.{no_lines, no_messages}
 use Rattle.gnocchi_run.proofs.Causes.{HasDiskCause, performs_cause}
+use Rattle.gnocchi_run.proofs.Sound.{performs_sound}
 use Rattle.gnocchi_run.specs.Doing.{Performs}
 use Rattle.gnocchi_run.specs.Task.{sacks_of}
 use Rattle.gnocchi_run.specs.declared.task.Task.{Task}
-use Rattle.gnocchi_run.specs.declared.task.Task.TheVariants.{Replay}
+use Rattle.gnocchi_run.specs.declared.task.Task.TheVariants.{Replay, ReplayHttp}
 use Rattle.gnocchi_run.proofs.top.run.Given as given
 use Rattle.gnocchi_run.proofs.top.run.Goals as goal
 
@@ -87,3 +89,58 @@ returns-clause-complete g c start sacks input lines is left whole short un =
 pub returns-clause-refused : goal.returns-clause-refused
 returns-clause-refused g c start sacks input lines is left whole short un =
     c.perform-back.ensures.refused start sacks input lines (sym (c.in-Ok.ensures.only (length c.args.disks.now.items) (Replay start sacks) is).0) left whole short un
+
+-- ---- where no disk fails
+
+pub returns-in-Err-Usage-clause-available : goal.returns-in-Err-Usage-clause-available
+returns-in-Err-Usage-clause-available g c start sacks is ready none = absurd (returns-in-Err-Usage-clause-usage g c refl (Replay start sacks) is)
+
+pub returns-in-Err-Usage-clause-available_http : goal.returns-in-Err-Usage-clause-available_http
+returns-in-Err-Usage-clause-available_http g c start sacks is ready none = absurd (returns-in-Err-Usage-clause-usage g c refl (ReplayHttp start sacks) is)
+
+pub returns-in-Err-Memory-clause-available : goal.returns-in-Err-Memory-clause-available
+returns-in-Err-Memory-clause-available g c start sacks is ready none =
+    no_lines _ _ _ _ (Keeps-refl (g.S.Source.left c.args.source.now)) (Appends-nil (g.K.Sink.taken c.args.sink.now))
+
+pub returns-in-Err-Memory-clause-available_http : goal.returns-in-Err-Memory-clause-available_http
+returns-in-Err-Memory-clause-available_http g c start sacks is ready none =
+    no_messages _ _ _ _ (Keeps-refl (g.S.Source.left c.args.source.now)) (Appends-nil (g.K.Sink.taken c.args.sink.now))
+
+pub returns-then-len-from-clause-available : goal.returns-then-len-from-clause-available
+returns-then-len-from-clause-available g c start sacks is ready none = absurd (returns-then-len-from-clause-usage g c refl (Replay start sacks) is)
+
+pub returns-then-len-from-clause-available_http : goal.returns-then-len-from-clause-available_http
+returns-then-len-from-clause-available_http g c start sacks is ready none = absurd (returns-then-len-from-clause-usage g c refl (ReplayHttp start sacks) is)
+
+pub returns-clause-available : goal.returns-clause-available
+returns-clause-available g c start sacks is ready none =
+    c.working_disks_answer.ensures.script start sacks c.args.disks.now.items c.perform-back.result.0.items (g.S.Source.left c.args.source.now) (g.S.Source.left c.perform-back.new.source)
+    (g.K.Sink.taken c.args.sink.now) (g.K.Sink.taken c.perform-back.new.sink) c.perform-back.result.1
+    (done g c (Replay start sacks) (c.in-Ok.ensures.only (length c.args.disks.now.items) (Replay start sacks) is).0) ready none
+
+pub returns-clause-available_http : goal.returns-clause-available_http
+returns-clause-available_http g c start sacks is ready none =
+    c.working_disks_answer.ensures.connection start sacks c.args.disks.now.items c.perform-back.result.0.items (g.S.Source.left c.args.source.now) (g.S.Source.left c.perform-back.new.source)
+    (g.K.Sink.taken c.args.sink.now) (g.K.Sink.taken c.perform-back.new.sink) c.perform-back.result.1
+    (done g c (ReplayHttp start sacks) (c.in-Ok.ensures.only (length c.args.disks.now.items) (ReplayHttp start sacks) is).0) ready none
+
+-- ---- where no count of faults rises
+
+pub returns-in-Err-Usage-clause-unfaulted : goal.returns-in-Err-Usage-clause-unfaulted
+returns-in-Err-Usage-clause-unfaulted g c task is ready none source sink = absurd (returns-in-Err-Usage-clause-usage g c refl task is)
+
+pub returns-then-len-from-clause-unfaulted : goal.returns-then-len-from-clause-unfaulted
+returns-then-len-from-clause-unfaulted g c task is ready none source sink = absurd (returns-then-len-from-clause-usage g c refl task is)
+
+pub returns-clause-unfaulted : goal.returns-clause-unfaulted
+returns-clause-unfaulted g c task is ready none source sink =
+    let sound = performs_sound g.D.Disk c.stores_are_not_damaged.ensures c.args.disks.now.items c.perform-back.result.0.items (g.S.Source.left c.args.source.now) (g.S.Source.left c.perform-back.new.source)
+    (g.K.Sink.taken c.args.sink.now) (g.K.Sink.taken c.perform-back.new.sink) c.perform-back.result.1 task ready
+    (done g c task (c.in-Ok.ensures.only (length c.args.disks.now.items) task is).0) in
+    record {
+      read = λ e. source (c.perform-back.ensures.read_cause e);
+      write = λ e. sink (c.perform-back.ensures.write_cause e);
+      disk = λ e. none ((cause g c).disk e);
+      damage = sound.damage;
+      exists = sound.exists;
+    }
