@@ -1,5 +1,6 @@
 #!/bin/sh
-# Makes a store in a new folder, posts two measures to it, kills the program, and reads the mean back.
+# Makes a store in a new folder, and in it an archive policy and a metric; posts two measures to it, kills the program, and
+# reads the mean back.
 set -eu
 top=$(cd "$(dirname "$0")/.." && pwd)
 folder=$(mktemp -d)
@@ -9,7 +10,7 @@ mkfifo "$folder/lines"
 "$top/gnocchi" replay --store "$folder/store" <"$folder/lines" >"$folder/replies" &
 program=$!
 exec 3>"$folder/lines"
-head -n 1 "$top/examples/first.script" >&3
+head -n 3 "$top/examples/first.script" >&3
 tries=0
 until grep -q '^202$' "$folder/replies"; do
     tries=$((tries + 1))

@@ -19,7 +19,7 @@ failing() {
     number=$2
     shift 2
     status=0
-    strace -o "$folder/trace" -e "trace=$call" -e "inject=$call:error=EIO:when=$number" \
+    strace -y -o "$folder/trace" -e "trace=$call" -e "inject=$call:error=EIO:when=$number" \
         "$top/gnocchi" "$@" <"$folder/lines" >"$folder/replies" 2>/dev/null || status=$?
     grep -q INJECTED "$folder/trace"
 }
@@ -27,7 +27,7 @@ failing() {
 # The posts that a new run has.
 count_kept() {
     printf 'WORK\nGET %s?granularity=60&aggregation=count\n' "$path" |
-        "$top/gnocchi" replay --store "$1" >"$folder/answer"
+        "$top/gnocchi" replay --store "$1" --sacks 1 >"$folder/answer"
     kept=$(tail -n 1 "$folder/answer" | tr '[' '\n' | awk -F, 'NF >= 3 { sum += $3 } END { print sum + 0 }')
 }
 
@@ -38,21 +38,23 @@ awk -v posts="$posts" -v path="$path" 'BEGIN {
         if (second == 1) print "WORK"
     }
 }' >"$folder/lines"
-"$top/gnocchi" create --store "$folder/empty" >/dev/null
+"$top/gnocchi" create --store "$folder/empty" --sacks 1 >/dev/null
+head -n 2 "$top/examples/first.script" | "$top/gnocchi" replay --store "$folder/empty" --sacks 1 >/dev/null
 
 made=0
 for call in fsync fdatasync pwrite64; do
     number=1
-    while cp -R "$folder/empty" "$folder/store" && failing "$call" "$number" replay --store "$folder/store"; do
+    while cp -R "$folder/empty" "$folder/store" && failing "$call" "$number" replay --store "$folder/store" --sacks 1; do
         acknowledged=$(grep -c '^202$' "$folder/replies" || true)
         [ "$status" -eq 6 ] || [ "$status" -eq 0 ]
         if [ "$status" -eq 0 ]; then
             [ "$(wc -l <"$folder/replies")" -eq $((posts + 1)) ]
         fi
         case $call in
-            # The file is synced no more, and from the first reply of a fault on there is no other.
+            # That file is synced no more, and from the first reply of a fault on there is no other.
             f*sync)
-                [ "$(sed '1,/INJECTED/d' "$folder/trace" | grep -c '^f' || true)" -eq 0 ]
+                file=$(sed -n 's/^[a-z]*(\([0-9]*<[^>]*>\)).*INJECTED.*/\1/p' "$folder/trace")
+                [ "$(sed '1,/INJECTED/d' "$folder/trace" | grep -c -F "($file)" || true)" -eq 0 ]
                 [ "$(uniq "$folder/replies" | grep -c '^503')" -eq "$((status == 0))" ]
                 [ "$(tail -n 1 "$folder/replies" | grep -c '^2')" -eq 0 ]
                 ;;
@@ -76,8 +78,8 @@ done
 
 # Where a write fails and the length of the file can't be had, nothing is acknowledged from then on.
 cp -R "$folder/empty" "$folder/store"
-strace -o "$folder/trace" -e trace=pwrite64,statx -e inject=pwrite64:error=ENOSPC:when=3 -e inject=statx:error=EIO:when=2+ \
-    "$top/gnocchi" replay --store "$folder/store" <"$folder/lines" >"$folder/replies"
+strace -o "$folder/trace" -e trace=pwrite64,statx -e inject=pwrite64:error=ENOSPC:when=3 -e inject=statx:error=EIO:when=8+ \
+    "$top/gnocchi" replay --store "$folder/store" --sacks 1 <"$folder/lines" >"$folder/replies"
 [ "$(grep -c INJECTED "$folder/trace")" -ge 2 ]
 [ "$(uniq "$folder/replies" | tr '\n' ' ')" = '202 503 {"error":"disk"} ' ]
 count_kept "$folder/store"
@@ -88,14 +90,13 @@ cd "$folder"
 made=0
 for call in fsync fdatasync pwrite64; do
     number=1
-    while failing "$call" "$number" create --store new/deep/store; do
+    while failing "$call" "$number" create --store new/deep/store --sacks 1; do
         [ "$status" -eq 6 ]
         [ ! -s "$folder/replies" ]
         status=0
-        "$top/gnocchi" create --store new/deep/store >"$folder/out" 2>/dev/null || status=$?
+        "$top/gnocchi" create --store new/deep/store --sacks 1 >"$folder/out" 2>/dev/null || status=$?
         [ "$status" -eq 0 ] || [ "$status" -eq 11 ]
-        count_kept new/deep/store
-        [ "$kept" -eq 0 ]
+        [ "$("$top/gnocchi" check --store new/deep/store --sacks 1)" = "sacks 1 metrics 0 pending 0" ]
         rm -r new
         number=$((number + 1))
     done

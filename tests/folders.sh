@@ -8,11 +8,11 @@ trap 'rm -rf "$folder"' EXIT
 cd "$folder"
 for place in "$folder/a/b/c" d/e/f g/h/i/; do
     [ "$("$top/gnocchi" create --store "$place")" = created ]
-    [ -s "$place/log" ]
+    [ -s "$place/index.a" ]
     "$top/gnocchi" replay --store "$place" </dev/null
 done
 status=0
-"$top/gnocchi" create --store d/e/f/log/x >out 2>/dev/null || status=$?
+"$top/gnocchi" create --store d/e/f/index.a/x >out 2>/dev/null || status=$?
 [ "$status" -eq 6 ]
 [ ! -s out ]
 if strace -o trace true 2>/dev/null; then

@@ -36,12 +36,13 @@ fill() {
     done
 }
 
-"$top/gnocchi" create --store "$folder/store" >/dev/null
+"$top/gnocchi" create --store "$folder/store" --sacks 1 >/dev/null
+head -n 2 "$top/examples/first.script" | "$top/gnocchi" replay --store "$folder/store" --sacks 1 >/dev/null
 mkfifo "$folder/lines"
 (
     trap '' XFSZ
     ulimit -S -f 8
-    exec "$top/gnocchi" replay --store "$folder/store"
+    exec "$top/gnocchi" replay --store "$folder/store" --sacks 1
 ) <"$folder/lines" >"$folder/replies" &
 program=$!
 exec 3>"$folder/lines"
@@ -67,7 +68,7 @@ wait "$program"
 program=
 acknowledged=$(grep -c '^202$' "$folder/replies")
 printf 'WORK\nGET %s?granularity=300&aggregation=count\n' "$path" |
-    "$top/gnocchi" replay --store "$folder/store" >"$folder/answer"
+    "$top/gnocchi" replay --store "$folder/store" --sacks 1 >"$folder/answer"
 kept=$(tail -n 1 "$folder/answer" | tr '[' '\n' | awk -F, 'NF >= 3 { sum += $3 } END { print sum + 0 }')
 echo "$acknowledged acknowledged, $kept kept"
 [ "$kept" -ge "$acknowledged" ]

@@ -36,6 +36,7 @@ refused() {
 }
 
 "$top/gnocchi" create --store "$store" >/dev/null
+head -n 2 "$top/examples/first.script" | "$top/gnocchi" replay --store "$store" >/dev/null
 mkfifo "$folder/lines"
 "$top/gnocchi" replay --store "$store" <"$folder/lines" >"$folder/replies" &
 program=$!
