@@ -106,6 +106,6 @@ for call in fsync fdatasync pwrite64; do
     echo "create, $call: $((number - 1)) made to fail in turn"
     made=$((made + number - 1))
 done
-# Four folders are synced, and the first record is appended.
+# Four folders are synced, and the disks of the index and of a sack are made.
 [ "$made" -ge 8 ]
 echo "faults: ok"
